@@ -9,6 +9,7 @@ pub mod list;
 pub mod memory;
 pub mod name;
 pub mod steps;
+pub mod text;
 
 pub use fault::{FaultKind, Place};
 pub use kind::{Family, Level};
