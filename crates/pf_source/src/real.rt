@@ -9,8 +9,7 @@ use crate::source::Source;
 use pf_base::{List, Text};
 use std::alloc::Global;
 use std::io::{Read, Write};
-use std::rt;
-use std::{fs, str};
+use std::{fs, rt, str};
 
 /// How many bytes are asked of a file at a time.
 const CHUNK: usize = 65536;
@@ -71,7 +70,12 @@ fn read_rest<F: Read>(alloc: Global, file: &mut F, limit: u64) -> Result<Vec<u8>
 }
 
 // A real file of this name, whole.
-fn read_named<R: rt::Files>(rt: &R, alloc: Global, name: &[u8], limit: u64) -> Result<Vec<u8>, Unread>
+fn read_named<R: rt::Files>(
+    rt: &R,
+    alloc: Global,
+    name: &[u8],
+    limit: u64,
+) -> Result<Vec<u8>, Unread>
     ensures { IfOk result (λ bytes. length bytes.items ≤ limit) }
 {
     let Ok(path) = str::from_utf8(name) else {
@@ -89,7 +93,9 @@ impl<R: rt::Files> Files for RealFiles<R> {
     fn read(&mut self, alloc: Global, name: &Text, limit: u64) -> Result<Text, FilesFault> {
         match read_named(&self.rt, alloc, name.items(), limit) {
             Ok(bytes) => Ok(List::of(bytes)),
-            Err(Unread::TooLarge) if limit < u64::MAX => Err(FilesFault::TooLarge { seen: limit + 1 }),
+            Err(Unread::TooLarge) if limit < u64::MAX => Err(FilesFault::TooLarge {
+                seen: limit + 1,
+            }),
             Err(Unread::NoMemory) => Err(FilesFault::NoMemory),
             Err(_) => Err(self.count()),
         }
