@@ -6,6 +6,7 @@
 pub mod line;
 pub mod rules;
 
+pub use line::words_say_what_they_spell;
 pub use rules::{RulesFault, read_rules};
 
 #[cfg(test)]

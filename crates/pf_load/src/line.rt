@@ -13,7 +13,7 @@ const DIGITS: usize = 3;
 
 /// The rule that the words of a line say, or None where they say none.
 #[tactic(auto, unfolding(crate::specs::Line::rule_of))]
-pub fn read_rule(line: &[u8]) -> Option<Rule>
+pub(crate) fn read_rule(line: &[u8]) -> Option<Rule>
     ensures { result ≡ rule_of (words_of line.now) }
 {
     match split_word(line)? {
