@@ -26,25 +26,25 @@ packet_at : Direction → ℕ → Packet
 packet_at direction proto = record { direction = direction; iface = codes "em0"; proto = proto }
 
 answered_in : answer_text (answer_of rules_written (packet_at In 17)) ≡ codes "pass keep state"
-unfolding rules_written packet_at
+unfolding rules_written packet_at answer_of answer_text
 answered_in = refl
 
 answered_out : answer_text (answer_of rules_written (packet_at Out 17)) ≡ codes "block drop"
-unfolding rules_written packet_at
+unfolding rules_written packet_at answer_of answer_text
 answered_out = refl
 
 answered_nothing : answer_text (answer_of [] (packet_at In 17)) ≡ codes "pass no state"
-unfolding packet_at
+unfolding packet_at answer_of answer_text
 answered_nothing = refl
 
 record_read : packet_of (codes "in em0 0017 10.0.0.1") ≡ Ok (packet_at In 17)
-unfolding packet_at fields_of decimal_of
+unfolding packet_at packet_of fields_of decimal_of
 record_read = refl
 
 record_refused : packet_of (codes "in em0 256") ≡ Err (record { 0 = field.Protocol })
-unfolding fields_of decimal_of
+unfolding packet_of fields_of decimal_of
 record_refused = refl
 
 record_short : packet_of (codes "in") ≡ Err (record { 0 = field.Interface })
-unfolding fields_of decimal_of
+unfolding packet_of fields_of decimal_of
 record_short = refl

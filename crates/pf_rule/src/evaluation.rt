@@ -14,7 +14,7 @@ use pf_base::Steps;
 
 /// The answer that the rules give a packet: the last matching rule decides, a matching `quick` rule
 /// at once, and without a match the packet passes without state (pf.conf(5)). Each test is counted.
-#[tactic(auto, using(crate::proofs::Walks::walked_stopped, crate::proofs::Walks::walked_all))]
+#[tactic(auto, using(crate::proofs::Walks::walked_stopped, crate::proofs::Walks::walked_all), unfolding(crate::specs::Answer::answer_of))]
 pub fn evaluate<L>(rules: &[Rule], packet: &Packet, steps: &mut Steps<L>) -> Answer
     ensures answer { result ≡ answer_of rules.now packet.now }
     ensures counted { steps.new.count ≤ steps.old.count + length rules.now }
