@@ -1,1 +1,6 @@
 pub mod Cover
+pub mod Network
+pub mod Values
+pub mod Texts
+pub mod Short
+pub mod Prefixes

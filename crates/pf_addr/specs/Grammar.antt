@@ -1,5 +1,5 @@
 -- The texts that write an address or a prefix, each beside what it writes.
-use Rattle.std.specs.Prelude.{◌≡◌, ℕ, zero, suc, ◌≤◌, ◌<◌, ◌⊎◌, List, [], ◌++◌, length, codes}
+use Rattle.std.specs.Prelude.{◌≡◌, ℕ, zero, suc, ◌≤◌, ◌<◌, ◌⊎◌, List, [], ◌∷◌, ◌++◌, length, codes, count_by, ◌==◌}
 use Rattle.std.specs.Int.Digits.{number_from_digits}
 use Rattle.std.specs.Net.Grammar.{IsDotted, IsColonHex, IsNumber}
 use Rattle.pf_addr.specs.declared.addr.Addr.{Addr}
@@ -29,6 +29,10 @@ abbrev pub zeros : ℕ → List ℕ
 zeros zero = []
 zeros (suc k) = codes ".0" ++ zeros k
 
+-- how many dots a text has
+abbrev pub dot_count : List ℕ → ℕ
+dot_count text = count_by (λ b. b == 46) text
+
 -- one to four numbers: with those that are missing as zero they are an IPv4 address
 pub record IsShortIpv4 (text : List ℕ) (n : ℕ) : Type 0 where
   pub missing : ℕ
@@ -44,11 +48,15 @@ IsNetworkText text (V6 n) = IsIpv6 text n
 abbrev pub IsMask : List ℕ → ℕ → Type 0
 IsMask text n = IsNumber 10 text n × (length text ≤ 3)
 
+-- the byte before a mask
+abbrev pub slash : ℕ
+slash = 47
+
 -- an address with a mask, of any number
 pub record IsMasked (text : List ℕ) (a : Addr) (n : ℕ) : Type 0 where
   pub front : List ℕ
   pub digits : List ℕ
-  pub spelled : text ≡ front ++ codes "/" ++ digits
+  pub spelled : text ≡ front ++ slash ∷ digits
   pub address : IsNetworkText front a
   pub mask : IsMask digits n
 

@@ -13,7 +13,7 @@ pub mod range;
 
 pub use addr::Addr;
 pub use ifaces::{DynIf, Ifaces};
-pub use parse::AddrFault;
+pub use parse::{AddrFault, parse_addr, parse_prefix};
 pub use prefix::Prefix;
 
 pub use range::Range;
