@@ -4,3 +4,6 @@ pub mod Values
 pub mod Texts
 pub mod Short
 pub mod Prefixes
+pub mod Digits
+pub mod Groups
+pub mod Printed

@@ -6,6 +6,7 @@
 
 pub mod addr;
 pub mod ifaces;
+mod line;
 pub mod parse;
 pub mod prefix;
 pub mod print;
@@ -15,5 +16,6 @@ pub use addr::Addr;
 pub use ifaces::{DynIf, Ifaces};
 pub use parse::{AddrFault, parse_addr, parse_prefix};
 pub use prefix::Prefix;
+pub use print::{put_addr, put_prefix};
 
 pub use range::Range;
