@@ -113,8 +113,10 @@ narrower p q range first all lt =
 -- where the other's first address is in the prefix, it covers the other exactly where it is no narrower
 pub covers_by_len : (p q : Prefix) → IsAddr q.addr → IsTrue (contains p q.addr) → (IsTrue (nat_le p.len q.len) ↔ CoversAll p q)
 covers_by_len p q range first =
-    let at = IsIn-true p q.addr first in
-    (λ le. covers_all p q at (leb-true _ _ le), λ all. elim (cases_lt q.len p.len) [
-      | inl lt ↦ absurd (omega (arith, narrower p q range at all lt))
-      | inr le ↦ le-leb _ _ le
-    ])
+    let at = IsIn-true p q.addr first in (
+      λ le. covers_all p q at (leb-true _ _ le),
+      λ all. elim (cases_lt q.len p.len) [
+        | inl lt ↦ absurd (omega (arith, narrower p q range at all lt))
+        | inr le ↦ le-leb _ _ le
+      ],
+    )

@@ -7,3 +7,4 @@ pub mod Prefixes
 pub mod Digits
 pub mod Groups
 pub mod Printed
+mod Examples

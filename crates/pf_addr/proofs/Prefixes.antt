@@ -41,9 +41,9 @@ module _ (text : List ℕ) (a : Addr) (n : ℕ) (r : Result Prefix AddrFault) (w
   pub prefix_only : (p : Prefix) → IsPrefixText text p → r ≡ Ok p
   prefix_only p h = at_ok r (ok (short_enough p h))
     where
-    at_ok : (s : Result Prefix AddrFault) → IsOkAnd s (IsNetworkOf a n) → s ≡ Ok p
-    at_ok (Ok q) k = ap Ok (network_is p q h k)
-    at_ok (Err f) k = absurd k
+      at_ok : (s : Result Prefix AddrFault) → IsOkAnd s (IsNetworkOf a n) → s ≡ Ok p
+      at_ok (Ok q) k = ap Ok (network_is p q h k)
+      at_ok (Err f) k = absurd k
 
   not_err : (s : Result Prefix AddrFault) (f : AddrFault) → IsOkAnd s (IsNetworkOf a n) → s ≡ Err f → 0 < 0
   not_err (Ok q) f k e = absurd cc
@@ -59,7 +59,7 @@ module _ (text : List ℕ) (a : Addr) (n : ℕ) (r : Result Prefix AddrFault) (w
       | inr le ↦ absurd (omega (arith, not_err r (MaskTooLong m) (ok le) e))
     ],
     λ h.
-    let same = Writes-unique text a h.addr n m writes h.writes in
-    let wide : width a < n = rw (same.0, same.1) h.over in
-    over wide ∙ ap (λ (t : ℕ). Err (MaskTooLong t)) same.1,
+        let same = Writes-unique text a h.addr n m writes h.writes in
+        let wide : width a < n = rw (same.0, same.1) h.over in
+        over wide ∙ ap (λ (t : ℕ). Err (MaskTooLong t)) same.1,
   )

@@ -213,8 +213,7 @@ Writes-unique text a b m n (inl h) (inl k) =
 Writes-unique text a b m n (inl h) (inr k) = absurd (omega (arith, no_cut text k.front k.digits (All-addr text a h.0) k.spelled))
 Writes-unique text a b m n (inr h) (inl k) = absurd (omega (arith, no_cut text h.front h.digits (All-addr text b k.0) h.spelled))
 Writes-unique text a b m n (inr h) (inr k) =
-    let parts = same_cut h.front h.digits k.front k.digits (All-network _ a h.address) (All-network _ b k.address) (sym h.spelled ∙ k.spelled) in
-    (
+    let parts = same_cut h.front h.digits k.front k.digits (All-network _ a h.address) (All-network _ b k.address) (sym h.spelled ∙ k.spelled) in (
       IsNetworkText-unique h.front a b h.address (subst (λ (t : List ℕ). IsNetworkText t b) (sym parts.0) k.address),
       sym h.mask.0.1 ∙ ap (digits_value 10) parts.1 ∙ k.mask.0.1,
     )

@@ -17,5 +17,7 @@ pub use ifaces::{DynIf, Ifaces};
 pub use parse::{AddrFault, parse_addr, parse_prefix};
 pub use prefix::Prefix;
 pub use print::{put_addr, put_prefix};
-
 pub use range::Range;
+
+#[cfg(test)]
+mod tests;
