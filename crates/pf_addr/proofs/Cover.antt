@@ -1,13 +1,13 @@
 -- One prefix covers another exactly where each address of the other is in it.
-use Rattle.std.proofs.Common.{◌≡◌, ℕ, ◌+◌, ◌-◌, ◌*◌, ◌/◌, ◌%◌, ◌^◌, ◌<◌, ◌≤◌, ◌&&◌, IsTrue, nat_eq, nat_le, refl, sym, ap, ◌∙◌, subst, arith, eq-eqb, inl, inr}
+use Rattle.std.proofs.Common.{◌≡◌, ℕ, ◌+◌, ◌-◌, ◌*◌, ◌/◌, ◌%◌, ◌^◌, ◌<◌, ◌≤◌, IsTrue, nat_le, refl, sym, ap, ◌∙◌, subst, arith, eq-eqb, inl, inr}
 use Rattle.std.specs.Prelude.{◌↔◌}
 use Rattle.std.proofs.lemmas.Bool.{and_parts, and_from, eqb-true, le-leb, leb-true, cases_lt}
-use Rattle.std.proofs.lemmas.Nat.{shr-shr, pow-add, pow_pos, shr_high, shr_split, shr_below, le-div, pow_below}
+use Rattle.std.proofs.lemmas.Nat.{shr-shr, pow-add, pow_pos, shr_high, shr_split, shr_below, pow_below}
 use Rattle.pf_addr.specs.declared.addr.Addr.{Addr}
 use Rattle.pf_addr.specs.declared.addr.Addr.TheVariants.{V4, V6}
 use Rattle.pf_addr.specs.declared.prefix.Prefix.{Prefix}
 use Rattle.pf_addr.specs.Addr.{width, number, IsAddr, leading}
-use Rattle.pf_addr.specs.Prefix.{contains, covers, CoversAll}
+use Rattle.pf_addr.specs.Prefix.{contains, CoversAll}
 
 -- what the test says
 pub record IsIn (p : Prefix) (a : Addr) : Type 0 where

@@ -1,5 +1,5 @@
 -- The digits that are printed.
-use Rattle.std.proofs.Common.{◌≡◌, ℕ, zero, suc, ◌+◌, ◌-◌, ◌*◌, ◌/◌, ◌%◌, ◌^◌, ◌<◌, ◌≤◌, ◌⊎◌, List, [], ◌∷◌, ◌++◌, length, get_or, decimal, All, refl, sym, ap, subst, ◌∙◌, arith, inl, inr, append_assoc, le-leb, lit<}
+use Rattle.std.proofs.Common.{◌≡◌, ℕ, zero, suc, ◌+◌, ◌*◌, ◌/◌, ◌%◌, ◌^◌, ◌<◌, ◌≤◌, ◌⊎◌, List, [], ◌∷◌, ◌++◌, length, get_or, decimal, All, refl, ap, ◌∙◌, arith, inl, inr, append_assoc, le-leb}
 use Rattle.std.proofs.Math.Nat.{pow-zero, pow-suc}
 use Rattle.std.specs.Char.{digit_char}
 use Rattle.std.specs.Int.Digits.{number_from_digits}

@@ -1,5 +1,5 @@
 -- What a text says of a prefix, from what it writes.
-use Rattle.std.proofs.Common.{◌≡◌, ℕ, ◌-◌, ◌%◌, ◌^◌, ◌<◌, ◌≤◌, ◌⊎◌, List, Result, Ok, Err, refl, sym, ap, subst, ◌∙◌, arith, inl, inr}
+use Rattle.std.proofs.Common.{◌≡◌, ℕ, ◌-◌, ◌%◌, ◌^◌, ◌<◌, ◌≤◌, List, Result, Ok, Err, sym, ap, subst, ◌∙◌, arith, inl, inr}
 use Rattle.std.specs.Prelude.{◌↔◌}
 use Rattle.std.specs.Result.{IsOkAnd}
 use Rattle.std.specs.Coded.{le_prop}
@@ -9,7 +9,7 @@ use native.Mathlib.Nat.{ℕ_set}
 use Rattle.pf_addr.specs.declared.addr.Addr.{Addr}
 use Rattle.pf_addr.specs.declared.prefix.Prefix.{Prefix}
 use Rattle.pf_addr.specs.declared.parse.AddrFault.{AddrFault}
-use Rattle.pf_addr.specs.declared.parse.AddrFault.TheVariants.{NotAnAddress, MaskTooLong}
+use Rattle.pf_addr.specs.declared.parse.AddrFault.TheVariants.{MaskTooLong}
 use Rattle.pf_addr.specs.Addr.{width, number, network}
 use Rattle.pf_addr.specs.Grammar.{Writes}
 use Rattle.pf_addr.specs.PrefixText.{IsNetworkOf, IsPrefixText, IsTooLong}

@@ -1,16 +1,21 @@
 -- What is printed is in the grammar, and is the text that RFC 5952 asks for.
-use Rattle.std.proofs.Common.{◌≡◌, ℕ, ◌+◌, ◌-◌, ◌%◌, ◌^◌, ◌<◌, ◌≤◌, ◌==◌, ◌⊎◌, List, [], ◌∷◌, ◌++◌, length, take, drop, decimal, refl, sym, ap, subst, ◌∙◌, arith, inl, inr, append_assoc, lit<, eq-eqb, ne_eqb}
+use Rattle.std.proofs.Common.{◌≡◌, ℕ, ◌^◌, ◌<◌, ◌≤◌, ◌⊎◌, List, [], ◌∷◌, length, decimal, refl, sym, ◌∙◌, arith, inl, inr, append_assoc, lit<, eq-eqb, ne_eqb, rules, true, false, le-leb}
 use Rattle.std.specs.Net.Text.{longest_zero_run, hex_groups_text}
 use Rattle.std.proofs.NetLemmas.Texts.{IsDotted-ipv4_text, IsColonHex-hex_groups_text, IsZeroRun-longest_zero_run, longest_zero_run_first}
 use Rattle.std.proofs.lemmas.Bool.{cases_lt, cases_eq}
 use Rattle.std.proofs.lemmas.List.{append-nil}
-use Rattle.std.proofs.lemmas.Fmt.{decimal_is_IsNumeral, length-decimal-le}
+use Rattle.std.proofs.lemmas.Fmt.{decimal_nonempty, digits_decimal, digits_value-decimal, length-decimal-le}
+use Rattle.std.proofs.lemmas.Str.Parse.{IsNumeralModel, numerals_by_fold}
+use Rattle.std.specs.List.{list_all}
+use Rattle.std.specs.Char.{is_ascii_digit}
+use Rattle.pf_base.specs.Text.{is_nothing}
+use Rattle.pf_base.specs.Decimal.{digits_after, decimal_of}
 use Rattle.pf_addr.specs.declared.addr.Addr.{Addr}
 use Rattle.pf_addr.specs.declared.addr.Addr.TheVariants.{V4, V6}
 use Rattle.pf_addr.specs.declared.prefix.Prefix.{Prefix}
 use Rattle.pf_addr.specs.Addr.{width, IsAddr, network}
 use Rattle.pf_addr.specs.Text.{last_digits, addr_text, IsZeroRun, IsWhole, IsShortened, IsShortest}
-use Rattle.pf_addr.specs.Grammar.{IsAddrText, IsNetworkText, IsMask, Writes, slash}
+use Rattle.pf_addr.specs.Grammar.{IsAddrText, IsNetworkText, IsMask, slash}
 use Rattle.pf_addr.specs.PrefixText.{prefix_text, IsPrefixText}
 use Rattle.pf_addr.proofs.Digits.{length-last_digits, last_digits-value, last_digits-below}
 use Rattle.pf_addr.proofs.Groups.{shortened_text, whole_text}
@@ -61,10 +66,22 @@ before_mask (V4 n) h =
     record { missing = 0; few = omega arith; filled = rw append-nil whole }
 before_mask (V6 n) h = IsAddrText-addr_text (V6 n) h
 
+-- pf_base's number of a text of digits
+own : IsNumeralModel (λ ds. list_all is_ascii_digit ds ≡ true) (digits_after 0)
+own = numerals_by_fold _ (search rules) digits_after (search rules)
+
+nonempty : (text : List ℕ) → 0 < length text → is_nothing text ≡ false
+nonempty [] h = absurd (omega arith)
+nonempty (b ∷ text) h = refl
+
 mask_text : (n : ℕ) → n < 1000 → IsMask (decimal n) n
+unfolding decimal_of
 mask_text n lt =
-    let h = decimal_is_IsNumeral n (omega arith) in
-    ((h.0, h.1), length-decimal-le 3 n (lit< tt) lt (omega arith))
+    let small : n < 2 ^ 64 = omega arith in
+    let some : is_nothing (decimal n) ≡ false = nonempty (decimal n) (decimal_nonempty n small) in
+    let all : list_all is_ascii_digit (decimal n) ≡ true = digits_decimal own n small in
+    let value : digits_after 0 (decimal n) ≡ n = digits_value-decimal own n small in
+    (rw (some, all, value, le-leb n 999 (omega arith)) refl, length-decimal-le 3 n (lit< tt) lt small)
 
 width_most : (a : Addr) → width a ≤ 128
 width_most (V4 n) = omega arith

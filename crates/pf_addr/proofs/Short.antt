@@ -1,14 +1,12 @@
--- Short IPv4 addresses, and the digits of a mask.
-use Rattle.std.proofs.Common.{◌≡◌, ℕ, zero, suc, ◌+◌, ◌-◌, ◌*◌, ◌<◌, ◌≤◌, List, [], ◌∷◌, ◌++◌, length, take, get_or, Option, Some, None, refl, sym, ap, subst, ◌∙◌, arith, length-append}
+-- Short IPv4 addresses.
+use Rattle.std.proofs.Common.{◌≡◌, ℕ, zero, suc, ◌+◌, ◌-◌, ◌*◌, ◌≤◌, List, ◌++◌, length, take, Option, Some, None, refl, sym, ap, subst, ◌∙◌, arith, length-append}
 use Rattle.std.specs.Option.{MatchOption}
-use Rattle.std.specs.Char.{digit_value}
-use Rattle.std.specs.Str.Parse.{AllDigits}
 use Rattle.std.proofs.Math.Seq.{take-append-add}
 use Rattle.std.proofs.lemmas.List.{take_at, take-take}
 use Rattle.std.proofs.lemmas.Slice.{take-put_mid}
 use borrow.Rule.Slice.PartMut.{put_mid}
-use Rattle.pf_addr.specs.Grammar.{IsIpv4, zeros, dot_count, IsShortIpv4}
-use Rattle.pf_addr.proofs.Texts.{missing_is}
+use Rattle.pf_addr.specs.Grammar.{IsIpv4, zeros, IsShortIpv4}
+use Rattle.pf_addr.proofs.Texts.{dot_count, missing_is}
 
 pub with_zeros_is : (text first second rest : List ℕ) (k : ℕ) → first ≡ text → second ≡ zeros 3 → take (length text + 6) (put_mid (length text) k (first ++ rest) second) ≡ text ++ zeros 3
 with_zeros_is text first second rest k e f =
@@ -39,8 +37,3 @@ short_from text whole dots None is few e h =
 short_from text whole dots (Some x) is few e h =
     let part = cut text whole (3 - dots) (omega arith) e in
     record { missing = 3 - dots; few = omega arith; filled = subst (λ (t : List ℕ). IsIpv4 t x) part h }
-
-pub digit_below : (radix : ℕ) (ds : List ℕ) (i : ℕ) → AllDigits radix ds → i < length ds → digit_value (get_or ds i 0) < radix
-digit_below radix [] i h lt = absurd (omega arith)
-digit_below radix (d ∷ ds) zero h lt = h.0
-digit_below radix (d ∷ ds) (suc i) h lt = digit_below radix ds i h.1 (omega arith)

@@ -1,22 +1,22 @@
 -- The bytes of addresses, and that a text writes one address and one mask at most.
-use Rattle.std.proofs.Common.{◌≡◌, ◌≢◌, ℕ, zero, suc, ◌+◌, ◌-◌, ◌*◌, ◌<◌, ◌≤◌, ◌^◌, ◌⊎◌, Bool, true, false, cond, List, [], ◌∷◌, ◌++◌, length, take, get_or, decimal, All, refl, sym, ap, subst, ◌∙◌, arith, inl, inr, length-append, append_assoc, eqb, lit<}
+use Rattle.std.proofs.Common.{◌==◌, ◌≡◌, ◌≢◌, ℕ, zero, suc, ◌+◌, ◌<◌, ◌≤◌, ◌^◌, Bool, true, false, List, [], ◌∷◌, ◌++◌, length, get_or, decimal, Option, Some, All, refl, sym, ap, subst, ◌∙◌, arith, inl, inr, length-append, append_assoc, lit<}
 use Rattle.std.proofs.lemmas.List.{take_at, drop_at}
 use Rattle.std.specs.List.{count_by}
 use Rattle.std.specs.Char.{digit_value}
-use Rattle.std.specs.Str.Parse.{AllDigits, digits_value}
+use Rattle.std.specs.Str.Parse.{AllDigits}
 use Rattle.std.specs.Net.Addr.{segments_of}
-use Rattle.std.specs.Net.Grammar.{IsDotted, IsColonHex, IsGroupsAfter, IsElided}
-use Rattle.std.specs.Net.Text.{dotted_text, ipv4_text}
+use Rattle.std.specs.Net.Grammar.{IsDotted, IsColonHex, IsGroupsAfter}
+use Rattle.std.specs.Net.Text.{dotted_text}
 use Rattle.std.proofs.NetLemmas.Alphabet.{IsDigitOrDot, All-ipv4_text}
 use Rattle.std.proofs.lemmas.Bool.{ne_eqb}
-use Rattle.std.proofs.lemmas.List.Elements.{All-nil, All-cons, All-head, All-tail, All-append, All-same, All-take, All-drop, All-weaker, All-from_get_or}
+use Rattle.std.proofs.lemmas.List.Elements.{All-nil, All-cons, All-head, All-tail, All-append, All-same, All-take, All-drop, All-weaker}
 use Rattle.std.proofs.lemmas.List.Sums.{sum_by-append}
 use Rattle.std.proofs.lemmas.Fmt.{decimal_is_IsNumeral, length-decimal-le}
-use Rattle.std.proofs.lemmas.Str.Parse.{digit_at}
+use Rattle.pf_base.specs.Decimal.{decimal_of}
 use Rattle.pf_addr.specs.declared.addr.Addr.{Addr}
 use Rattle.pf_addr.specs.declared.addr.Addr.TheVariants.{V4, V6}
 use Rattle.pf_addr.specs.Addr.{width}
-use Rattle.pf_addr.specs.Grammar.{IsIpv4, IsIpv6, IsAddrText, zeros, dot_count, IsShortIpv4, IsNetworkText, IsMask, slash, IsMasked, Writes}
+use Rattle.pf_addr.specs.Grammar.{IsIpv4, IsIpv6, IsAddrText, zeros, IsShortIpv4, IsNetworkText, IsMask, slash, Writes}
 use Rattle.pf_addr.proofs.Values.{IsIpv4-unique, IsIpv6-unique, IsAddrText-unique}
 
 -- ---- no slash stands in an address
@@ -100,6 +100,9 @@ no_cut (t ∷ text) (x ∷ xs) ys h e = no_cut text xs ys (All-tail NotSlash t t
 
 -- ---- the dots of an IPv4 address
 
+abbrev pub dot_count : List ℕ → ℕ
+dot_count text = count_by (λ b. b == 46) text
+
 dots-append : (xs ys : List ℕ) → dot_count (xs ++ ys) ≡ dot_count xs + dot_count ys
 dots-append xs ys = sum_by-append _ xs ys
 
@@ -157,7 +160,7 @@ IsShortIpv4-unique text m n h k =
     let same : k.missing ≡ h.missing = omega (arith, missing_is text m h, missing_is text n k) in
     IsIpv4-unique (text ++ zeros h.missing) m n h.filled (subst (λ (t : ℕ). IsIpv4 (text ++ zeros t) n) same k.filled)
 
--- ---- one address and one mask
+-- ---- the colons of an IPv6 address
 
 -- a colon stands in each IPv6 address, and in no short IPv4 address
 abbrev NotColon : ℕ → Type 0
@@ -206,6 +209,9 @@ IsNetworkText-unique text (V6 m) (V4 n) h k = absurd (omega (arith, not_both tex
 
 -- ---- one address and one mask
 
+same_mask : {m n : ℕ} → ◌≡◌ {A = Option ℕ} (Some m) (Some n) → m ≡ n
+same_mask e = cc
+
 pub Writes-unique : (text : List ℕ) (a b : Addr) (m n : ℕ) → Writes text a m → Writes text b n → (a ≡ b) × (m ≡ n)
 Writes-unique text a b m n (inl h) (inl k) =
     let same = IsAddrText-unique text a b h.0 k.0 in
@@ -215,7 +221,7 @@ Writes-unique text a b m n (inr h) (inl k) = absurd (omega (arith, no_cut text h
 Writes-unique text a b m n (inr h) (inr k) =
     let parts = same_cut h.front h.digits k.front k.digits (All-network _ a h.address) (All-network _ b k.address) (sym h.spelled ∙ k.spelled) in (
       IsNetworkText-unique h.front a b h.address (subst (λ (t : List ℕ). IsNetworkText t b) (sym parts.0) k.address),
-      sym h.mask.0.1 ∙ ap (digits_value 10) parts.1 ∙ k.mask.0.1,
+      same_mask (sym h.mask.0 ∙ ap (decimal_of 999) parts.1 ∙ k.mask.0),
     )
 
 -- a text with no slash writes an address alone

@@ -1,7 +1,8 @@
--- The texts that write an address or a prefix, each beside what it writes.
-use Rattle.std.specs.Prelude.{◌≡◌, ℕ, zero, suc, ◌≤◌, ◌<◌, ◌⊎◌, List, [], ◌∷◌, ◌++◌, length, codes, count_by, ◌==◌}
+-- The texts that write an address or a prefix, each beside what it writes (pf.conf(5), PARAMETERS).
+use Rattle.std.specs.Prelude.{◌≡◌, ℕ, zero, suc, ◌≤◌, ◌⊎◌, List, [], ◌∷◌, ◌++◌, length, codes, Some}
 use Rattle.std.specs.Int.Digits.{number_from_digits}
-use Rattle.std.specs.Net.Grammar.{IsDotted, IsColonHex, IsNumber}
+use Rattle.std.specs.Net.Grammar.{IsDotted, IsColonHex}
+use Rattle.pf_base.specs.Decimal.{decimal_of}
 use Rattle.pf_addr.specs.declared.addr.Addr.{Addr}
 use Rattle.pf_addr.specs.declared.addr.Addr.TheVariants.{V4, V6}
 use Rattle.pf_addr.specs.Addr.{width}
@@ -24,16 +25,12 @@ abbrev pub IsAddrText : List ℕ → Addr → Type 0
 IsAddrText text (V4 n) = IsIpv4 text n
 IsAddrText text (V6 n) = IsIpv6 text n
 
--- so many numbers that are zero
+-- a dot and a zero for each of so many numbers
 abbrev pub zeros : ℕ → List ℕ
 zeros zero = []
 zeros (suc k) = codes ".0" ++ zeros k
 
--- how many dots a text has
-abbrev pub dot_count : List ℕ → ℕ
-dot_count text = count_by (λ b. b == 46) text
-
--- one to four numbers: with those that are missing as zero they are an IPv4 address
+-- one to four numbers with dots between them: with zeros for the missing ones they are an IPv4 address
 pub record IsShortIpv4 (text : List ℕ) (n : ℕ) : Type 0 where
   pub missing : ℕ
   pub few : missing ≤ 3
@@ -44,9 +41,9 @@ abbrev pub IsNetworkText : List ℕ → Addr → Type 0
 IsNetworkText text (V4 n) = IsShortIpv4 text n
 IsNetworkText text (V6 n) = IsIpv6 text n
 
--- the number of a mask: one to three decimal digits
+-- the number of a mask: one to three decimal digits, where leading zeros may stand
 abbrev pub IsMask : List ℕ → ℕ → Type 0
-IsMask text n = IsNumber 10 text n × (length text ≤ 3)
+IsMask text n = (decimal_of 999 text ≡ Some n) × (length text ≤ 3)
 
 -- the byte before a mask
 abbrev pub slash : ℕ

@@ -1,5 +1,5 @@
 -- A prefix as a set of addresses: those of its family with the same leading bits.
-use Rattle.std.specs.Prelude.{ℕ, Bool, ◌&&◌, ◌==◌, nat_le, IsTrue}
+use Rattle.std.specs.Prelude.{Bool, ◌&&◌, ◌==◌, nat_le, IsTrue}
 use Rattle.pf_addr.specs.declared.addr.Addr.{Addr}
 use Rattle.pf_addr.specs.declared.prefix.Prefix.{Prefix}
 use Rattle.pf_addr.specs.Addr.{IsAddr, same_family, leading}

@@ -14,7 +14,7 @@ pub struct DynIf {
     pub first: bool,
 }
 
-/// The interfaces of a host.
+/// The interfaces of a host, as far as a rule asks for them.
 pub trait Ifaces {
     ghost use Rattle.std.specs.Prelude.{ℕ, List, Bool};
     ghost use Rattle.pf_addr.specs.declared.addr.Addr.{Addr};

@@ -14,13 +14,13 @@ pub(crate) struct Line {
 }
 
 impl Model for Line {
-    ghost use Rattle.std.specs.Prelude.{List, ℕ, take, ◌≤◌};
+    ghost use Rattle.std.specs.Prelude.{List, ℕ, take, length, ◌≤◌};
 
     ghost Value = { List ℕ };
 
     ghost view = { λ a. take a.len a.bytes };
 
-    ghost invariant = { λ a. a.len ≤ 48 };
+    ghost invariant = { λ a. a.len ≤ length a.bytes };
 }
 
 impl Line {

@@ -1,27 +1,31 @@
 //! From a text to an address or a prefix.
-ghost use Rattle.std.specs.Prelude.{◌≡◌, ℕ, ◌+◌, ◌≤◌, ◌<◌, ◌≢◌, ◌↔◌, ◌++◌, ◌∷◌, length, take, All, IfOk, IfErr, IfSome, IfNone, IsOkAnd, MatchOption};
+ghost use Rattle.std.specs.Prelude.{◌≡◌, ℕ, ◌+◌, ◌≤◌, ◌<◌, ◌≢◌, ◌↔◌, ◌++◌, ◌∷◌, ◌==◌, count_by, length, take, All, IfOk, IfErr, IfSome, IfNone, IsOkAnd, MatchOption};
 ghost use Rattle.pf_addr.specs.Addr.{width};
-ghost use Rattle.pf_addr.specs.Grammar.{IsIpv4, IsIpv6, IsShortIpv4, IsAddrText, IsNetworkText, IsMask, Writes, slash, zeros, dot_count};
+ghost use Rattle.pf_addr.specs.Grammar.{IsIpv4, IsIpv6, IsShortIpv4, IsAddrText, IsNetworkText, IsMask, Writes, slash, zeros};
 ghost use Rattle.pf_addr.specs.PrefixText.{IsNetworkOf, IsPrefixText, IsTooLong};
 
 use crate::addr::Addr;
 use crate::prefix::Prefix;
+use pf_base::text::decimal;
 use std::net::{Ipv4Addr, Ipv6Addr};
 
 /// Why a text is no address.
 #[derive(Clone, Copy, Debug, PartialEq, Eq)]
 pub enum AddrFault {
-    /// The text is outside the forms.
+    /// The text has no form of an address.
     NotAnAddress,
-    /// Only the mask is wrong: its number is over 32 or 128.
+    /// The mask has this many bits, more than the 32 or 128 of the address.
     MaskTooLong(u32),
 }
 
 // The longest IPv4 address has this many bytes.
 const LONGEST_IPV4: usize = 15;
 
-// What stands for the numbers that a short IPv4 address leaves out.
+// What stands for the numbers that a short IPv4 address leaves out, three at most.
 const ZEROS: [u8; 6] = *b".0.0.0";
+
+// The most bytes of a short IPv4 address with those numbers behind it.
+const FILLED: usize = LONGEST_IPV4 + ZEROS.len();
 
 fn parse_ipv4(text: &[u8]) -> Option<u32>
     ensures { MatchOption result ((n : ℕ) → IsIpv4 text.now n → ⊥) (IsIpv4 text.now) }
@@ -42,19 +46,19 @@ fn parse_ipv6(text: &[u8]) -> Option<u128>
 }
 
 fn count_dots(text: &[u8]) -> usize
-    ensures { result ≡ dot_count text.now }
+    ensures { result ≡ count_by (λ b. b == 46) text.now }
 {
     text.iter().filter(|b| **b == b'.').count()
 }
 
 // The text, and behind it zeros for three numbers.
-fn with_zeros(text: &[u8]) -> [u8; 21]
+fn with_zeros(text: &[u8]) -> [u8; FILLED]
     requires { length text.now ≤ LONGEST_IPV4 }
     ensures { take (length text.now + 6) result ≡ text.now ++ zeros 3 }
 {
-    let mut filled = [0u8; 21];
+    let mut filled = [0u8; FILLED];
     filled[..text.len()].copy_from_slice(text);
-    filled[text.len()..text.len() + 6].copy_from_slice(&ZEROS);
+    filled[text.len()..text.len() + ZEROS.len()].copy_from_slice(&ZEROS);
     filled
 }
 
@@ -83,15 +87,11 @@ fn parse_network(text: &[u8]) -> Option<Addr>
 fn parse_mask(digits: &[u8]) -> Option<u32>
     ensures { MatchOption result ((n : ℕ) → IsMask digits.now n → ⊥) (IsMask digits.now) }
 {
-    if digits.is_empty() || digits.len() > 3 {
-        return None;
+    if digits.len() > 3 {
+        None
+    } else {
+        decimal(digits, 999)
     }
-    let mut number = 0;
-    for b in digits {
-        let digit = char::from(*b).to_digit(10)?;
-        number = number * 10 + digit;
-    }
-    Some(number)
 }
 
 // The parts before and behind the first `/`.
@@ -134,8 +134,8 @@ fn prefix_of(addr: Addr, len: u32) -> Result<Prefix, AddrFault>
     }
 }
 
-/// Reads an IPv4 address of four numbers, or an IPv6 address. `NotAnAddress` comes exactly where the text
-/// writes no address.
+/// Reads an IPv4 address of four numbers, or an IPv6 address (RFC 4291, 2.2). `NotAnAddress` comes exactly
+/// where the text writes neither; no other fault comes.
 pub fn parse_addr(text: &[u8]) -> Result<Addr, AddrFault>
     ensures found { IfOk result (IsAddrText text.now) }
     ensures only { (a : Addr) → IsAddrText text.now a → result ≡ Ok a }
@@ -152,9 +152,9 @@ pub fn parse_addr(text: &[u8]) -> Result<Addr, AddrFault>
     }
 }
 
-/// Reads an address with a mask, where an IPv4 address may have one to four numbers, or an address alone,
-/// which has all its bits. Host bits are cleared. `NotAnAddress` comes exactly where the text is outside
-/// these forms, and `MaskTooLong(n)` exactly where only the mask's number n is over 32 or 128.
+/// Reads `address/bits` of pf.conf(5), where an IPv4 address may leave out its last numbers, or an address
+/// alone, which has all its bits; host bits become zero. `MaskTooLong(n)` comes exactly where the text has
+/// this form with n bits, more than the family has, and `NotAnAddress` exactly where it has no such form.
 pub fn parse_prefix(text: &[u8]) -> Result<Prefix, AddrFault>
     ensures found { IfOk result (IsPrefixText text.now) }
     ensures only { (p : Prefix) → IsPrefixText text.now p → result ≡ Ok p }

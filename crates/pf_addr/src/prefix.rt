@@ -4,11 +4,11 @@ ghost use Rattle.pf_addr.specs.Addr.{width, number};
 
 use crate::addr::{Addr, without_last};
 
-/// The addresses of one family whose first `len` bits are those of `addr`.
+/// The addresses of one family whose first `len` bits are those of `addr`. Its other bits are zero.
 #[derive(Clone, Copy, Debug, PartialEq, Eq, PartialOrd, Ord, Hash)]
 pub struct Prefix {
     pub addr: Addr,
-    /// How many bits count, at most 32 or 128.
+    /// How many bits count, at most 32 of an IPv4 and 128 of an IPv6 address.
     pub len: u8,
     pub ghost fits: { len ≤ width addr },
     pub ghost no_host_bits: { number addr % 2 ^ (width addr - len) ≡ 0 },

@@ -2,6 +2,7 @@
 ghost use Rattle.std.specs.Prelude.{◌≡◌, ◌+◌, ◌*◌, ◌<◌, ◌≤◌, ◌∷◌, ◌++◌, length, decimal, OnOk, OnErr};
 ghost use Rattle.std.specs.Char.{digit_char};
 ghost use Rattle.std.specs.Net.Text.{hex, groups_text, longest_zero_run};
+ghost use Rattle.pf_addr.specs.Addr.{IsAddr};
 ghost use Rattle.pf_addr.specs.Grammar.{IsAddrText};
 ghost use Rattle.pf_addr.specs.Text.{last_digits, addr_text, IsShortest};
 ghost use Rattle.pf_addr.specs.PrefixText.{prefix_text, IsPrefixText};
@@ -10,6 +11,12 @@ use crate::addr::Addr;
 use crate::line::{Line, ROOM};
 use crate::prefix::Prefix;
 use pf_base::NoMemory;
+
+// The most bytes of an address: eight groups of four digits with a colon each, and two more.
+const LONGEST_ADDR: usize = 42;
+
+// As many zero groups as `::` stands for at least (RFC 5952, 4.2.2).
+const LEAST_RUN: usize = 2;
 
 // Zero groups that stand side by side.
 #[derive(Clone, Copy)]
@@ -76,7 +83,7 @@ fn put_groups(line: &mut Line, groups: &[u16])
     }
 }
 
-// The longest run of zero groups, the first of equal ones.
+// The longest run of zero groups; of equally long ones the one that begins first.
 fn longest_run(groups: &[u16]) -> ZeroRun
     ensures value { (result.start, result.len) ≡ longest_zero_run groups.now }
     ensures within { result.start + result.len ≤ length groups.now }
@@ -111,9 +118,9 @@ fn groups_of(bits: u128) -> [u16; 8]
 
 #[tactic(auto, unfolding(crate::specs::Text::last_digits))]
 fn put_ipv4(line: &mut Line, bits: u32)
-    requires { length line.old + 42 ≤ ROOM }
+    requires { length line.old + LONGEST_ADDR ≤ ROOM }
     ensures text { line.new ≡ line.old ++ addr_text (Addr.V4 bits) }
-    ensures most { length line.new ≤ length line.old + 42 }
+    ensures most { length line.new ≤ length line.old + LONGEST_ADDR }
 {
     let [a, b, c, d] = bits.to_be_bytes();
     put_number(line, a);
@@ -126,13 +133,13 @@ fn put_ipv4(line: &mut Line, bits: u32)
 }
 
 fn put_ipv6(line: &mut Line, bits: u128)
-    requires { length line.old + 42 ≤ ROOM }
+    requires { length line.old + LONGEST_ADDR ≤ ROOM }
     ensures text { line.new ≡ line.old ++ addr_text (Addr.V6 bits) }
-    ensures most { length line.new ≤ length line.old + 42 }
+    ensures most { length line.new ≤ length line.old + LONGEST_ADDR }
 {
     let groups = groups_of(bits);
     let run = longest_run(&groups);
-    if run.len > 1 {
+    if run.len >= LEAST_RUN {
         put_groups(line, &groups[..run.start]);
         line.push(b':');
         line.push(b':');
@@ -145,7 +152,8 @@ fn put_ipv6(line: &mut Line, bits: u128)
 // The text of an address.
 fn line_of(addr: &Addr) -> Line
     ensures text { result ≡ addr_text addr.now }
-    ensures most { length result ≤ 42 }
+    ensures most { length result ≤ LONGEST_ADDR }
+    ensures range { IsAddr addr.now }
 {
     let mut line = Line::new();
     match *addr {
@@ -165,7 +173,6 @@ pub fn put_addr(out: &mut Vec<u8>, addr: &Addr) -> Result<(), NoMemory>
     ensures reads_back { IsAddrText (addr_text addr.now) addr.now }
     ensures shortest { IsShortest (addr_text addr.now) addr.now }
 {
-    let _bits = addr.number();
     out.extend_from_slice(line_of(addr).bytes())?;
     Ok(())
 }
@@ -179,7 +186,6 @@ pub fn put_prefix(out: &mut Vec<u8>, prefix: &Prefix) -> Result<(), NoMemory>
     // What is printed is read as the prefix again.
     ensures reads_back { IsPrefixText (prefix_text prefix.now) prefix.now }
 {
-    let _bits = prefix.addr.number();
     let mut line = line_of(&prefix.addr);
     if prefix.len != prefix.addr.width() {
         line.push(b'/');

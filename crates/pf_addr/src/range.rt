@@ -4,7 +4,7 @@ ghost use Rattle.pf_addr.specs.Addr.{number, SameFamily};
 
 use crate::addr::Addr;
 
-/// The addresses of one family from `low` to `high`.
+/// The addresses of one family from `low` to `high`, both among them.
 #[derive(Clone, Copy, Debug, PartialEq, Eq, PartialOrd, Ord, Hash)]
 pub struct Range {
     pub low: Addr,

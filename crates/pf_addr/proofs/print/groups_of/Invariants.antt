@@ -1,4 +1,4 @@
-use Rattle.std.proofs.Common.{◌≡◌, ◌++◌, ◌≤◌, drop, length}
+use Rattle.std.proofs.Common.{◌≡◌, ◌++◌, drop, length}
 use Rattle.pf_addr.specs.Text.{last_digits}
 use Rattle.pf_addr.proofs.print.groups_of.Given as goal
 

@@ -1,4 +1,4 @@
-use Rattle.std.proofs.Common.{arith, ℕ, List, [], ◌∷◌, ◌++◌, ap, ◌∙◌, inl, inr}
+use Rattle.std.proofs.Common.{ℕ, [], ◌∷◌, ◌++◌, ap, ◌∙◌, inl, inr}
 use Rattle.pf_addr.proofs.Digits.{group_text}
 use Rattle.pf_addr.proofs.print.put_group.Goals.{then-group-ge4096, else-group-ge4096, then-group-ge256, else-group-ge256, then-group-ge16, else-group-ge16}
 use Rattle.pf_addr.proofs.print.put_group.Goals as goal
