@@ -1,1 +1,2 @@
 mod Subsets
+mod Operators

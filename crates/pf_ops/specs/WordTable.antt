@@ -5,4 +5,4 @@ use Rattle.pf_ops.specs.Words.{Entry}
 
 -- the entries of a table
 abbrev pub entries_of : List Row → List Entry
-entries_of = map (λ (r : Row). record { word = r.word.now; number = r.number })
+entries_of = map (λ (r : Row). record { word = r.0.now; number = r.1 })

@@ -1,5 +1,5 @@
 -- Words of pf.conf(5) that stand for numbers.
-use Rattle.std.specs.Prelude.{◌≡◌, ℕ, Bool, List, [], ◌∷◌, Option, Some, None, if◌then◌else◌, ◌==◌, codes}
+use Rattle.std.specs.Prelude.{ℕ, List, [], ◌∷◌, Option, Some, None, if◌then◌else◌, ◌==◌, codes}
 use Rattle.std.specs.Str.{bytes_eq}
 use Rattle.pf_base.specs.declared.kind.Family.{Family}
 use Rattle.pf_base.specs.declared.kind.Family.TheVariants.{Inet, Inet6}
@@ -23,7 +23,7 @@ word_of [] number = None
 word_of (e ∷ entries) number = if e.number == number then Some e.word else word_of entries number
 
 -- the names of protocols (pf.conf(5), Parameters, proto)
-abbrev pub protocols : List Entry
+unfoldable pub protocols : List Entry
 protocols =
     entry (codes "icmp") 1
     ∷ entry (codes "igmp") 2
@@ -42,7 +42,7 @@ protocols =
     ∷ []
 
 -- the names of ICMP types (pf.conf(5), Parameters, icmp-type)
-abbrev pub icmp4_types : List Entry
+unfoldable pub icmp4_types : List Entry
 icmp4_types =
     entry (codes "echorep") 0
     ∷ entry (codes "unreach") 3
@@ -54,7 +54,7 @@ icmp4_types =
     ∷ []
 
 -- the names of ICMPv6 types (pf.conf(5), Parameters, icmp6-type)
-abbrev pub icmp6_types : List Entry
+unfoldable pub icmp6_types : List Entry
 icmp6_types =
     entry (codes "unreach") 1
     ∷ entry (codes "toobig") 2
@@ -74,7 +74,7 @@ icmp_types Inet = icmp4_types
 icmp_types Inet6 = icmp6_types
 
 -- the letters of TCP flags and their bits (pf.conf(5), Parameters, flags)
-abbrev pub tcp_flags : List Entry
+unfoldable pub tcp_flags : List Entry
 tcp_flags =
     entry (codes "F") 1
     ∷ entry (codes "S") 2

@@ -12,4 +12,7 @@ pub mod words;
 pub use flags::{IcmpType, TcpFlags};
 pub use numbers::{Interval, Numbers};
 pub use operator::{Op16, Op32, OpKind};
-pub use words::{flag_bit, icmp_number, proto_number};
+pub use words::{flag_bit, icmp_number, proto_name, proto_number};
+
+#[cfg(test)]
+mod tests;

@@ -1,7 +1,7 @@
 //! The operators on ports, users and groups.
 ghost use Rattle.std.specs.Prelude.{◌≡◌, IsTrue, ◌↔◌};
 ghost use Rattle.pf_ops.specs.Numbers.{in_numbers, IsKept, Covers};
-ghost use Rattle.pf_ops.specs.Operator.{IsOperator};
+ghost use Rattle.pf_ops.specs.Operator.{IsOperator, set_of};
 
 use crate::numbers::Numbers;
 use std::marker::Model;
@@ -51,11 +51,11 @@ impl Model for Op16 {
 impl Op16 {
     /// The numbers that the operator names with `low` as a and `high` as b.
     pub fn make(kind: OpKind, low: u16, high: u16) -> Op16
-        ensures { IsOperator 65535 kind low high result }
+        ensures numbers { IsOperator 65535 kind low high result }
+        ensures value { result ≡ set_of 65535 kind low high }
     {
-        let most = u32::from(u16::MAX);
         Op16 {
-            numbers: Numbers::make(kind, u32::from(low), u32::from(high), most),
+            numbers: Numbers::make(kind, low as u32, high as u32, u16::MAX as u32),
         }
     }
 
@@ -106,7 +106,8 @@ impl Model for Op32 {
 impl Op32 {
     /// The numbers that the operator names with `low` as a and `high` as b.
     pub fn make(kind: OpKind, low: u32, high: u32) -> Op32
-        ensures { IsOperator 4294967295 kind low high result }
+        ensures numbers { IsOperator 4294967295 kind low high result }
+        ensures value { result ≡ set_of 4294967295 kind low high }
     {
         Op32 {
             numbers: Numbers::make(kind, low, high, u32::MAX),

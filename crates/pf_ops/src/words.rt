@@ -1,218 +1,110 @@
 //! Words that stand for numbers: protocols, ICMP types and the letters of TCP flags.
 ghost use Rattle.std.specs.Prelude.{◌≡◌, [], ◌∷◌, IfSome, Some};
+ghost use Rattle.std.specs.Option.{option_copied};
 ghost use Rattle.pf_ops.specs.Words.{number_of, word_of, protocols, icmp_types, tcp_flags};
 ghost use Rattle.pf_ops.specs.WordTable.{entries_of};
 
 use pf_base::{Family, Name};
 
 /// A word and the number that it stands for.
-struct Row {
-    word: &'static [u8],
-    number: u8,
-}
+struct Row(&'static [u8], u8);
 
 /// The names of protocols. Of two names of one number the first is printed.
 const PROTOCOLS: [Row; 14] = [
-    Row {
-        word: b"icmp",
-        number: 1,
-    },
-    Row {
-        word: b"igmp",
-        number: 2,
-    },
-    Row {
-        word: b"ipencap",
-        number: 4,
-    },
-    Row {
-        word: b"tcp",
-        number: 6,
-    },
-    Row {
-        word: b"udp",
-        number: 17,
-    },
-    Row {
-        word: b"ipv6",
-        number: 41,
-    },
-    Row {
-        word: b"gre",
-        number: 47,
-    },
-    Row {
-        word: b"esp",
-        number: 50,
-    },
-    Row {
-        word: b"ah",
-        number: 51,
-    },
-    Row {
-        word: b"icmp6",
-        number: 58,
-    },
-    Row {
-        word: b"ipv6-icmp",
-        number: 58,
-    },
-    Row {
-        word: b"ospf",
-        number: 89,
-    },
-    Row {
-        word: b"carp",
-        number: 112,
-    },
-    Row {
-        word: b"pfsync",
-        number: 240,
-    },
+    Row(b"icmp", 1),
+    Row(b"igmp", 2),
+    Row(b"ipencap", 4),
+    Row(b"tcp", 6),
+    Row(b"udp", 17),
+    Row(b"ipv6", 41),
+    Row(b"gre", 47),
+    Row(b"esp", 50),
+    Row(b"ah", 51),
+    Row(b"icmp6", 58),
+    Row(b"ipv6-icmp", 58),
+    Row(b"ospf", 89),
+    Row(b"carp", 112),
+    Row(b"pfsync", 240),
 ];
 
 const ICMP_TYPES: [Row; 7] = [
-    Row {
-        word: b"echorep",
-        number: 0,
-    },
-    Row {
-        word: b"unreach",
-        number: 3,
-    },
-    Row {
-        word: b"squench",
-        number: 4,
-    },
-    Row {
-        word: b"redir",
-        number: 5,
-    },
-    Row {
-        word: b"echoreq",
-        number: 8,
-    },
-    Row {
-        word: b"timex",
-        number: 11,
-    },
-    Row {
-        word: b"paramprob",
-        number: 12,
-    },
+    Row(b"echorep", 0),
+    Row(b"unreach", 3),
+    Row(b"squench", 4),
+    Row(b"redir", 5),
+    Row(b"echoreq", 8),
+    Row(b"timex", 11),
+    Row(b"paramprob", 12),
 ];
 
 const ICMP6_TYPES: [Row; 10] = [
-    Row {
-        word: b"unreach",
-        number: 1,
-    },
-    Row {
-        word: b"toobig",
-        number: 2,
-    },
-    Row {
-        word: b"timex",
-        number: 3,
-    },
-    Row {
-        word: b"paramprob",
-        number: 4,
-    },
-    Row {
-        word: b"echoreq",
-        number: 128,
-    },
-    Row {
-        word: b"echorep",
-        number: 129,
-    },
-    Row {
-        word: b"routersol",
-        number: 133,
-    },
-    Row {
-        word: b"routeradv",
-        number: 134,
-    },
-    Row {
-        word: b"neighbrsol",
-        number: 135,
-    },
-    Row {
-        word: b"neighbradv",
-        number: 136,
-    },
+    Row(b"unreach", 1),
+    Row(b"toobig", 2),
+    Row(b"timex", 3),
+    Row(b"paramprob", 4),
+    Row(b"echoreq", 128),
+    Row(b"echorep", 129),
+    Row(b"routersol", 133),
+    Row(b"routeradv", 134),
+    Row(b"neighbrsol", 135),
+    Row(b"neighbradv", 136),
 ];
 
 const TCP_FLAGS: [Row; 8] = [
-    Row {
-        word: b"F",
-        number: 1,
-    },
-    Row {
-        word: b"S",
-        number: 2,
-    },
-    Row {
-        word: b"R",
-        number: 4,
-    },
-    Row {
-        word: b"P",
-        number: 8,
-    },
-    Row {
-        word: b"A",
-        number: 16,
-    },
-    Row {
-        word: b"U",
-        number: 32,
-    },
-    Row {
-        word: b"E",
-        number: 64,
-    },
-    Row {
-        word: b"W",
-        number: 128,
-    },
+    Row(b"F", 1),
+    Row(b"S", 2),
+    Row(b"R", 4),
+    Row(b"P", 8),
+    Row(b"A", 16),
+    Row(b"U", 32),
+    Row(b"E", 64),
+    Row(b"W", 128),
 ];
 
 /// The number of the first row with this word.
 fn find_number(rows: &[Row], word: &[u8]) -> Option<u8>
     ensures { result ≡ number_of (entries_of rows.now) word.now }
 {
-    for row in rows {
-        if row.word == word {
-            return Some(row.number);
+    for Row(known, number) in rows {
+        if *known == word {
+            return Some(*number);
         }
     }
     None
 }
 
 /// The word of the first row with this number.
-fn find_word(rows: &[Row], number: u8) -> Option<Name>
-    ensures { result ≡ word_of (entries_of rows.now) number }
+fn find_word(rows: &[Row], number: u8) -> Option<&'static [u8]>
+    ensures { option_copied result ≡ word_of (entries_of rows.now) number }
 {
-    for row in rows {
-        if row.number == number {
-            return Name::new(row.word);
+    for Row(word, known) in rows {
+        if *known == number {
+            return Some(word);
         }
     }
     None
 }
 
 /// The protocol's number, or None exactly where no protocol has this name (pf.conf(5), Parameters).
+#[tactic(auto, unfolding(crate::specs::Words::protocols))]
 pub fn proto_number(word: &[u8]) -> Option<u8>
     ensures { result ≡ number_of protocols word.now }
 {
     find_number(&PROTOCOLS, word)
 }
 
+/// The protocol's name, or None exactly where none has this number. It is read back as the number.
+#[tactic(auto, unfolding(crate::specs::Words::protocols))]
+pub fn proto_name(number: u8) -> Option<Name>
+    ensures named { result ≡ word_of protocols number }
+    ensures read_back { IfSome result (λ name. number_of protocols name ≡ Some number) }
+{
+    Name::new(find_word(&PROTOCOLS, number)?)
+}
+
 /// The type's number, or None exactly where no type of the family has this name
 /// (pf.conf(5), Parameters, `icmp-type` and `icmp6-type`).
+#[tactic(auto, unfolding(crate::specs::Words::icmp4_types, crate::specs::Words::icmp6_types))]
 pub fn icmp_number(family: Family, word: &[u8]) -> Option<u8>
     ensures { result ≡ number_of (icmp_types family) word.now }
 {
@@ -223,6 +115,7 @@ pub fn icmp_number(family: Family, word: &[u8]) -> Option<u8>
 }
 
 /// The bit of a TCP flag's letter, or None exactly where no flag has it (pf.conf(5), Parameters).
+#[tactic(auto, unfolding(crate::specs::Words::tcp_flags))]
 pub fn flag_bit(letter: u8) -> Option<u8>
     ensures { result ≡ number_of tcp_flags (letter ∷ []) }
 {

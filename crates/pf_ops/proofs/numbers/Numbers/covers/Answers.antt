@@ -1,4 +1,4 @@
-use Rattle.std.proofs.Common.{refl, ap, sym, ◌∙◌, ◌&&◌, true}
+use Rattle.std.proofs.Common.{ap, sym, ◌∙◌, ◌&&◌, true}
 use Rattle.std.proofs.lemmas.Bool.{both_ways}
 use Rattle.pf_ops.proofs.Subsets.{covers_one, covers_two}
 use Rattle.pf_ops.proofs.numbers.Numbers.covers.Goals as goal
