@@ -8,6 +8,7 @@ pub mod kind;
 pub mod list;
 pub mod memory;
 pub mod name;
+pub mod text;
 
 pub use fault::{FaultKind, Place};
 pub use kind::{Family, Level};
