@@ -8,6 +8,9 @@ pub mod kind;
 pub mod list;
 pub mod memory;
 pub mod name;
+pub mod path;
+pub mod path_fault;
+mod path_text;
 pub mod text;
 
 pub use fault::{FaultKind, Place};
@@ -15,3 +18,8 @@ pub use kind::{Family, Level};
 pub use list::{List, Text};
 pub use memory::NoMemory;
 pub use name::Name;
+pub use path::Path;
+pub use path_fault::PathFault;
+
+#[cfg(test)]
+mod path_tests;
