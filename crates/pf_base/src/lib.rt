@@ -11,6 +11,7 @@ pub mod name;
 pub mod path;
 pub mod path_fault;
 mod path_text;
+pub mod steps;
 pub mod text;
 
 pub use fault::{FaultKind, Place};
@@ -20,6 +21,7 @@ pub use memory::NoMemory;
 pub use name::Name;
 pub use path::Path;
 pub use path_fault::PathFault;
+pub use steps::{Ledger, Steps};
 
 #[cfg(test)]
 mod path_tests;
