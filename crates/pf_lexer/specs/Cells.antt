@@ -1,5 +1,6 @@
 -- The bytes of a text with their places, once continued lines are joined. pf.conf(5), its introduction
-use Rattle.std.specs.Prelude.{ℕ, Bool, true, ◌+◌, ◌&&◌, ◌==◌, not, List, [], ◌∷◌, map, if◌then◌else◌}
+use Rattle.std.specs.Prelude.{◌≡◌, ℕ, Bool, true, false, ◌+◌, ◌-◌, ◌^◌, ◌<◌, ◌≤◌, ◌&&◌, ◌==◌, not, List, [], ◌∷◌, Option, Some, None, length, drop, map, if◌then◌else◌}
+use Rattle.std.specs.List.{list_any}
 use Rattle.pf_base.specs.declared.fault.Place.{Place}
 use Rattle.pf_lexer.specs.declared.cell.Cell.{Cell}
 
@@ -30,3 +31,33 @@ bytes_of cells = map (λ cell. cell.byte) cells
 abbrev pub stops : (ℕ → Bool) → List Cell → Bool
 stops test [] = true
 stops test (cell ∷ cells) = not (test cell.byte)
+
+-- the next cell
+abbrev pub first_cell : List Cell → Option Cell
+first_cell [] = None
+first_cell (cell ∷ cells) = Some cell
+
+-- a backslash and a newline come first
+abbrev pub is_continued : List ℕ → Bool
+is_continued [] = false
+is_continued (byte ∷ []) = false
+is_continued (byte ∷ next ∷ rest) = (byte == 92) && (next == 10)
+
+-- the bytes from a place in the text on can be counted in lines
+pub record CountsLines (text : List ℕ) (at line : ℕ) : Type 0 where
+  pub in_text : at ≤ length text
+  pub few : line + (length text - at) < 2 ^ 32
+
+-- where reading stands in a text: at no continuation
+pub record StandsIn (text : List ℕ) (at line : ℕ) : Type 0 where
+  pub counts : CountsLines text at line
+  pub past : is_continued (drop at text) ≡ false
+
+-- a `$` stands in the value
+abbrev pub has_dollar : List ℕ → Bool
+has_dollar value = list_any (λ byte. byte == 36) value
+
+-- what is left of a value in use: it has no `$`
+pub record IsValueRest (value : List ℕ) (at : ℕ) : Type 0 where
+  pub in_value : at ≤ length value
+  pub plain : has_dollar (drop at value) ≡ false

@@ -1,9 +1,8 @@
 -- What macros stand for. pf.conf(5), MACROS
-use Rattle.std.specs.Prelude.{◌≡◌, ℕ, ◌&&◌, List, [], ◌∷◌, Option, Some, None, length, nat_le, if◌then◌else◌, AllPairs, map}
-use Rattle.std.specs.Prelude.{◌≢◌}
+use Rattle.std.specs.Prelude.{◌≡◌, ℕ, ◌&&◌, List, [], ◌∷◌, Option, Some, None, length, nat_le, if◌then◌else◌}
 use Rattle.std.specs.Ordering.{nat_cmp}
 use Rattle.std.specs.Cmp.Lexicographic.{slice_cmp}
-use Rattle.std.specs.FinMap.{FinMap, get, from_entries}
+use Rattle.std.specs.FinMap.{FinMap, get, insert, empty}
 use Rattle.pf_lexer.specs.declared.macros.Define.{Define}
 
 -- values by name
@@ -14,10 +13,11 @@ Values = FinMap (slice_cmp nat_cmp) (List ℕ)
 unfoldable pub value_of : Values → List ℕ → Option (List ℕ)
 value_of macros name = if nat_le 1 (length name) && nat_le (length name) 63 then get macros name else None
 
--- no two definitions have one name
-abbrev pub HaveDifferentNames : List Define → Type 0
-HaveDifferentNames defines = AllPairs (λ a b. a.name ≢ b.name) defines
+-- the macros with these definitions added in turn: a later one of the same name replaces the value
+abbrev pub with_defines : Values → List Define → Values
+with_defines macros [] = macros
+with_defines macros (define ∷ defines) = with_defines (insert macros define.name define.value) defines
 
 -- what the definitions say
 abbrev pub values_of : List Define → Values
-values_of defines = from_entries (map (λ define. (define.name, define.value)) defines)
+values_of defines = with_defines empty defines

@@ -1,6 +1,6 @@
 -- The tokens of a text. pf.conf(5), its introduction and MACROS
 use Rattle.std.specs.Prelude.{◌≡◌, ℕ, Bool, true, false, ◌&&◌, ◌||◌, ◌==◌, not, List, [], ◌∷◌, ◌++◌, Option, Some, None, take, if◌then◌else◌}
-use Rattle.std.specs.List.{list_all, list_any}
+use Rattle.std.specs.List.{list_all}
 use Rattle.pf_base.specs.declared.fault.Place.{Place}
 use Rattle.pf_lexer.specs.declared.byte.ByteClass.TheVariants.{Blank, Newline, Sign, Quote, Hash, Dollar, Plain, Bad}
 use Rattle.pf_lexer.specs.declared.cell.Cell.{Cell}
@@ -11,7 +11,7 @@ use Rattle.pf_lexer.specs.declared.token.Cause.TheVariants as causes
 use Rattle.pf_lexer.specs.declared.token.Lexeme.{Lexeme}
 use Rattle.pf_lexer.specs.declared.token.Lexeme.TheVariants as lexemes
 use Rattle.pf_lexer.specs.Bytes.{class_of, is_word_byte, is_name_byte, is_known}
-use Rattle.pf_lexer.specs.Cells.{cells_at, bytes_of, stops}
+use Rattle.pf_lexer.specs.Cells.{cells_at, bytes_of, stops, has_dollar}
 
 abbrev pub token : TokenKind → List ℕ → Place → Lexeme
 token kind text place = lexemes.Token (record { kind = kind; text = text; place = place })
@@ -70,9 +70,6 @@ abbrev pub cut_off : Bool → Place → Lexeme
 cut_off true place = fault causes.Unterminated place
 cut_off false place = fault causes.BadByte place
 
-abbrev pub has_dollar : List ℕ → Bool
-has_dollar value = list_any (λ byte. byte == 36) value
-
 -- The first piece of the cells that are still to be read: the cells that it is spelled with, those that follow it, its
 -- token where it makes one, and the cells from which reading goes on. `values` says what macros stand for.
 pub data Piece (values : List ℕ → Option (List ℕ)) : List Cell → List Cell → Option Lexeme → List Cell → Type 0 where
@@ -120,7 +117,7 @@ pub data Piece (values : List ℕ → Option (List ℕ)) : List Cell → List Ce
   unnamed : {dollar : Cell} {cells rest : List Cell}
       → class_of dollar.byte ≡ Dollar
       → IsLongestRun is_word_byte cells rest
-      → stops is_name_byte cells ≡ true
+      → stops is_name_byte (cells ++ rest) ≡ true
       → Piece values (dollar ∷ cells) rest (Some (fault causes.MacroName dollar.place)) rest
   -- the name stands for nothing
   undefined : {dollar first : Cell} {name others rest : List Cell}

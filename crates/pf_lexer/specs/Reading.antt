@@ -9,8 +9,8 @@ use Rattle.pf_lexer.specs.declared.token.TokenKind.TheVariants as kinds
 use Rattle.pf_lexer.specs.declared.token.Cause.TheVariants as causes
 use Rattle.pf_lexer.specs.declared.token.Lexeme.{Lexeme}
 use Rattle.pf_lexer.specs.Bytes.{class_of, is_word_byte, is_name_byte, is_known}
-use Rattle.pf_lexer.specs.Cells.{cells_at, bytes_of}
-use Rattle.pf_lexer.specs.Pieces.{token, fault, is_in_line, is_escape, string_of, cut_off, has_dollar}
+use Rattle.pf_lexer.specs.Cells.{cells_at, bytes_of, has_dollar}
+use Rattle.pf_lexer.specs.Pieces.{token, fault, is_in_line, is_escape, string_of, cut_off}
 
 -- the cells from the front on that pass the test
 unfoldable pub front : (ℕ → Bool) → List Cell → List Cell

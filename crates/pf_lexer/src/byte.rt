@@ -1,6 +1,6 @@
 //! What the bytes of a configuration do.
 ghost use Rattle.std.specs.Prelude.{◌≡◌};
-ghost use Rattle.pf_lexer.specs.Bytes.{class_of, is_name_byte, is_known, makes_words};
+ghost use Rattle.pf_lexer.specs.Bytes.{class_of, is_name_byte, is_known, is_word_byte, makes_words};
 
 /// What a byte does outside quotes.
 #[derive(Clone, Copy, Debug, PartialEq, Eq)]
@@ -59,6 +59,13 @@ pub fn class_of(byte: u8) -> ByteClass
         33..=126 => ByteClass::Plain,
         _ => ByteClass::Bad,
     }
+}
+
+/// Whether a word may have the byte.
+pub fn is_word_byte(byte: u8) -> bool
+    ensures { result ≡ is_word_byte byte }
+{
+    class_of(byte).makes_words()
 }
 
 /// Whether a macro's name may have the byte: a letter, a digit or `_`.

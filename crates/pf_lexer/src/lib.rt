@@ -4,8 +4,10 @@
 
 mod byte;
 mod cell;
+mod cells;
 pub mod macros;
+mod reader;
 pub mod token;
 
-pub use macros::Define;
+pub use macros::{Define, Macros};
 pub use token::{Cause, Fault, Lexeme, Token, TokenKind};

@@ -1,0 +1,87 @@
+//! The bytes that are still to be read of a file and of a macro's value that is in use.
+ghost use Rattle.std.specs.Prelude.{◌≡◌, ◌++◌, drop, OnOk};
+ghost use Rattle.pf_lexer.specs.Bytes.{is_word_byte};
+ghost use Rattle.pf_lexer.specs.Cells.{bytes_of, first_cell};
+ghost use Rattle.pf_lexer.specs.Pieces.{is_in_line};
+ghost use Rattle.pf_lexer.specs.Reading.{front, beyond};
+
+use crate::byte::is_word_byte;
+use crate::cell::Cell;
+use crate::cells::FileCells;
+use pf_base::{NoMemory, Place};
+use std::marker::Model;
+
+/// What is still to be read: the rest of a macro's value, and then the rest of the file. Clauses see the cells.
+#[derive(Drop)]
+pub struct Reader {
+    value: Vec<u8>,
+    at: usize,
+    used: Place,
+    file: FileCells,
+}
+
+impl Model for Reader {
+    ghost use Rattle.std.specs.Prelude.{List, drop, ◌++◌};
+    ghost use Rattle.pf_lexer.specs.declared.cell.Cell.{Cell};
+    ghost use Rattle.pf_lexer.specs.Cells.{cells_at, IsValueRest};
+
+    ghost Value = { List Cell };
+
+    ghost view = { λ a. cells_at a.used (drop a.at a.value.items) ++ a.file };
+
+    ghost invariant = { λ a. IsValueRest a.value.items a.at };
+}
+
+impl Reader {
+    /// The next cell.
+    pub fn peek(&self) -> Option<Cell>
+        ensures { result ≡ first_cell self.now }
+    {
+        if self.at < self.value.len() {
+            Some(Cell {
+                byte: self.value[self.at],
+                place: self.used,
+            })
+        } else {
+            self.file.peek()
+        }
+    }
+
+    /// Passes the next cell.
+    pub fn advance(&mut self)
+        ensures { self.new ≡ drop 1 self.old }
+    {
+        if self.at < self.value.len() {
+            self.at += 1;
+        } else {
+            self.file.advance();
+        }
+    }
+
+    /// Takes the rest of a word.
+    pub fn take_word(&mut self, text: &mut Vec<u8>) -> Result<(), NoMemory>
+        ensures text { OnOk result (text.new.items ≡ text.old.items ++ bytes_of (front is_word_byte self.old)) }
+        ensures rest { OnOk result (self.new ≡ beyond is_word_byte self.old) }
+    {
+        while let Some(cell) = self.peek() {
+            if !is_word_byte(cell.byte) {
+                break;
+            }
+            text.push(cell.byte)?;
+            self.advance();
+        }
+        Ok(())
+    }
+
+    /// Passes the rest of a line.
+    pub fn skip_line(&mut self)
+        ensures { self.new ≡ beyond is_in_line self.old }
+    {
+        while let Some(cell) = self.peek() {
+            if cell.byte == b'\n' {
+                break;
+            }
+            self.advance();
+        }
+    }
+}
