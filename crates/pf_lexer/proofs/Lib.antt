@@ -1,7 +1,8 @@
 pub mod CellLemmas
 pub mod MapLemmas
 pub mod Runs
-pub mod Strings
+pub mod QuotedLemmas
 pub mod ValueLemmas
+pub mod Weights
 pub mod PieceSteps
 pub mod Tokens

@@ -13,7 +13,7 @@ use Rattle.pf_lexer.specs.Cells.{cells_at, bytes_of, stops, has_dollar}
 use Rattle.pf_lexer.specs.Pieces.{Piece, blank, comment, newline, sign, string, unterminated, word, bad, used, unnamed, undefined, nested, Next, NoMore, Reads, token, fault, is_in_line, string_of, cut_off, Between, IsLongestRun}
 use Rattle.pf_lexer.specs.Reading.{Step, Quoted, step, step_by, front, beyond, quoted_from, quoted_step, macro_step, named_step, value_step}
 use Rattle.pf_lexer.proofs.Runs.{joined, longest, front_is, beyond_is}
-use Rattle.pf_lexer.proofs.Strings.{IsQuoteByte-from_class, between_is, found_between, quoted_closed, IsBetween, EndsWith}
+use Rattle.pf_lexer.proofs.QuotedLemmas.{IsQuoteByte-from_class, between_is, found_between, quoted_closed, IsBetween, EndsWith}
 
 module _ (values : List ℕ → Option (List ℕ)) where
   -- the step at a cell of a known class

@@ -1,10 +1,14 @@
 -- The tokens of a text as the code finds them, piece by piece, on lists. proofs/Pieces says that these are the pieces of
 -- specs/Pieces and no others.
-use Rattle.std.specs.Prelude.{ℕ, Bool, true, false, ◌&&◌, ◌==◌, List, [], ◌∷◌, ◌++◌, Option, Some, None, take, if◌then◌else◌}
+use Rattle.std.specs.Prelude.{◌≡◌, ℕ, ◌+◌, ◌^◌, Bool, true, false, ◌&&◌, ◌==◌, List, [], ◌∷◌, ◌++◌, Option, Some, None, take, if◌then◌else◌}
 use Rattle.pf_base.specs.declared.fault.Place.{Place}
 use Rattle.pf_lexer.specs.declared.byte.ByteClass.{ByteClass}
 use Rattle.pf_lexer.specs.declared.byte.ByteClass.TheVariants.{Blank, Newline, Sign, Quote, Hash, Dollar, Plain, Bad}
 use Rattle.pf_lexer.specs.declared.cell.Cell.{Cell}
+use Rattle.pf_lexer.specs.declared.strings.StringPart.{StringPart}
+use Rattle.pf_lexer.specs.declared.strings.StringPart.TheVariants.{Closed, Dropped, Byte}
+use Rattle.pf_lexer.specs.declared.uses.MacroUse.{MacroUse}
+use Rattle.pf_lexer.specs.declared.uses.MacroUse.TheVariants.{Refused, Value}
 use Rattle.pf_lexer.specs.declared.token.TokenKind.TheVariants as kinds
 use Rattle.pf_lexer.specs.declared.token.Cause.TheVariants as causes
 use Rattle.pf_lexer.specs.declared.token.Lexeme.{Lexeme}
@@ -45,6 +49,12 @@ quoted_from quote (cell ∷ next ∷ cells) =
     else (if is_escape quote (cell ∷ next ∷ []) then prepended (next.byte ∷ []) true (quoted_from quote cells)
     else prepended (cell.byte ∷ []) (is_known (class_of cell.byte)) (quoted_from quote (next ∷ cells))))
 
+-- what is found behind a cell between quotes, where the cell ends the string, is dropped or stands for a byte
+abbrev pub part_then : ℕ → StringPart → List Cell → Quoted
+part_then quote Closed cells = record { text = []; known = true; closed = true; after = cells }
+part_then quote Dropped cells = quoted_from quote cells
+part_then quote (Byte byte) cells = prepended (byte ∷ []) (is_known (class_of byte)) (quoted_from quote cells)
+
 -- a token or none, and the cells from which reading goes on
 abbrev pub Step : Type 0
 Step = Option Lexeme × List Cell
@@ -83,3 +93,27 @@ step_by Bad values cell cells = (Some (fault causes.BadByte cell.place), cells)
 unfoldable pub step : (List ℕ → Option (List ℕ)) → List Cell → Step
 step values [] = (None, [])
 step values (cell ∷ cells) = step_by (class_of cell.byte) values cell cells
+
+-- what the code finds behind `$`, as a step: a fault, or a value to put in
+abbrev pub use_step : Place → MacroUse → List Cell → Step
+use_step place (Refused cause) cells = (Some (fault cause place), cells)
+use_step place (Value value) cells = (None, cells_at place value.items ++ cells)
+
+-- the cells that are left after it
+abbrev pub left_after : MacroUse → List Cell → List Cell
+left_after (Refused cause) cells = beyond is_word_byte cells
+left_after (Value value) cells = cells
+
+-- this is what stands behind a `$` with this name, where the name has this value
+abbrev pub IsUseOf : MacroUse → List ℕ → Option (List ℕ) → Type 0
+IsUseOf found name value = (place : Place) (cells : List Cell) → named_step place name value cells ≡ use_step place found (left_after found cells)
+
+-- a value that is put in has no `$`
+abbrev pub IsPlainUse : MacroUse → Type 0
+IsPlainUse (Refused cause) = Unit {0}
+IsPlainUse (Value value) = has_dollar value.items ≡ false
+
+-- How much is left to do: each step makes it less. A `$` may stand for a whole value, which is shorter than 2 ^ 64 bytes.
+abbrev pub weight : List Cell → ℕ
+weight [] = 0
+weight (cell ∷ cells) = (if cell.byte == 36 then 2 ^ 64 else 1) + weight cells

@@ -7,7 +7,9 @@ mod cell;
 mod cells;
 pub mod macros;
 mod reader;
+mod strings;
 pub mod token;
+mod uses;
 
 pub use macros::{Define, Macros};
 pub use token::{Cause, Fault, Lexeme, Token, TokenKind};

@@ -1,10 +1,11 @@
 -- What stands behind an opening quote is what the code finds there.
-use Rattle.std.proofs.Common.{◌≡◌, ℕ, Bool, true, false, cond, List, [], ◌∷◌, ◌++◌, refl, ap, sym, ◌∙◌, subst}
-use Rattle.std.specs.Prelude.{not, ◌&&◌, ◌==◌}
-use Rattle.std.proofs.lemmas.Bool.{and_parts, eqb-true, ne_eqb, eq-eqb, false≢true}
+use Rattle.std.proofs.Common.{◌≡◌, ℕ, Bool, true, false, cond, List, [], ◌∷◌, ◌++◌, drop, Option, Some, None, refl, ap, sym, ◌∙◌, subst, ⊎_elim, append-nil}
+use Rattle.std.specs.Prelude.{not, ◌&&◌, ◌||◌, ◌==◌}
+use Rattle.std.proofs.lemmas.Bool.{and_parts, and_from, and_right, or_cases, eqb-true, ne_eqb}
 use Rattle.pf_lexer.specs.declared.byte.ByteClass.TheVariants.{Quote}
 use Rattle.pf_lexer.specs.declared.cell.Cell.{Cell}
 use Rattle.pf_lexer.specs.Bytes.{class_of, is_known}
+use Rattle.pf_lexer.specs.Cells.{first_cell}
 use Rattle.pf_lexer.specs.Pieces.{Between, nothing, escaped, dropped, kept, is_escape, is_escapable}
 use Rattle.pf_lexer.specs.Reading.{Quoted, quoted_from, prepended}
 
@@ -124,3 +125,51 @@ module _ (quote : ℕ) (q : IsQuoteByte quote) where
     by_escape : (b : Bool) → is_escape quote (cell ∷ next ∷ []) ≡ b → IsBetween quote cells (quoted_from quote cells) → IsBetween quote (next ∷ cells) (quoted_from quote (next ∷ cells)) → IsBetween quote (cell ∷ next ∷ cells) (quoted_from quote (cell ∷ next ∷ cells))
     by_escape true s two one = escape cell next cells s two
     by_escape false s two one = one_more cell (next ∷ cells) s one
+
+-- what is no escape
+pub no_slash : (quote : ℕ) (cell : Cell) (cells : List Cell) → (cell.byte == 92) ≡ false → is_escape quote (cell ∷ cells) ≡ false
+no_slash quote cell [] e = refl
+no_slash quote cell (next ∷ cells) e = rw e refl
+
+pub no_escapable : (quote : ℕ) (cell next : Cell) (cells : List Cell) → Some next ≡ first_cell cells → is_escapable quote next.byte ≡ false → is_escape quote (cell ∷ cells) ≡ false
+no_escapable quote cell next [] e fails = refl
+no_escapable quote cell next (first ∷ cells) e fails =
+    let same : next ≡ first = cc in
+    and_right (cell.byte == 92) (is_escapable quote first.byte) (ap (λ (c : Cell). is_escapable quote c.byte) (sym same) ∙ fails)
+
+pub no_next : (quote : ℕ) (cell : Cell) (cells : List Cell) → None ≡ first_cell cells → is_escape quote (cell ∷ cells) ≡ false
+no_next quote cell [] e = refl
+no_next quote cell (first ∷ cells) e = absurd cc
+
+-- an escaped byte may stand in a string
+known_at : (byte other : ℕ) → (byte == other) ≡ true → is_known (class_of other) ≡ true → is_known (class_of byte) ≡ true
+known_at byte other e known = ap (λ n. is_known (class_of n)) (eqb-true byte other e) ∙ known
+
+escapable_known : (quote byte : ℕ) → class_of quote ≡ Quote → is_escapable quote byte ≡ true → is_known (class_of byte) ≡ true
+unfolding class_of
+escapable_known quote byte is e = ⊎_elim
+    (λ first. ⊎_elim (λ a. known_at byte quote a (ap is_known is)) (λ b. known_at byte 32 b refl) (or_cases (byte == quote) (byte == 32) first))
+    (λ c. known_at byte 9 c refl)
+    (or_cases (byte == quote || byte == 32) (byte == 9) e)
+
+pub escape_goes_on : (quote : ℕ) (slash next : Cell) (cells : List Cell) → class_of quote ≡ Quote → (slash.byte == 92) ≡ true → Some next ≡ first_cell cells → is_escapable quote next.byte ≡ true
+    → quoted_from quote (slash ∷ cells) ≡ prepended (next.byte ∷ []) (is_known (class_of next.byte)) (quoted_from quote (drop 1 cells))
+escape_goes_on quote slash next [] is s e passes = absurd cc
+escape_goes_on quote slash next (first ∷ cells) is s e passes =
+    let same : next ≡ first = cc in
+    let escapes = and_from (slash.byte == 92) (is_escapable quote first.byte) s (ap (λ (c : Cell). is_escapable quote c.byte) (sym same) ∙ passes) in
+    let tests = slash_tests quote slash first (IsQuoteByte-from_class quote is) escapes in
+    quoted_escaped quote slash first cells tests.0 tests.1 escapes
+    ∙ ap (λ (c : Cell). prepended (c.byte ∷ []) true (quoted_from quote cells)) (sym same)
+    ∙ ap (λ known. prepended (next.byte ∷ []) known (quoted_from quote cells)) (sym (escapable_known quote next.byte is passes))
+
+and_true : (known : Bool) → (known && true) ≡ known
+and_true true = refl
+and_true false = refl
+
+-- where nothing is left, what was found so far is all
+pub cut_off_is : (quote : ℕ) (cells : List Cell) (text : List ℕ) (known : Bool) (whole : Quoted) → None ≡ first_cell cells → prepended text known (quoted_from quote cells) ≡ whole
+    → whole ≡ record { text = text; known = known; closed = false; after = cells }
+unfolding quoted_from
+cut_off_is quote [] text known whole e so_far = sym so_far ∙ (λ i. record { text = append-nil text i; known = and_true known i; closed = false; after = [] })
+cut_off_is quote (first ∷ cells) text known whole e so_far = absurd cc
