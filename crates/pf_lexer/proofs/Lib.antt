@@ -1,4 +1,5 @@
 pub mod CellLemmas
+pub mod DollarLemmas
 pub mod MapLemmas
 pub mod Runs
 pub mod QuotedLemmas

@@ -1,14 +1,20 @@
 //! The bytes that are still to be read of a file and of a macro's value that is in use.
-ghost use Rattle.std.specs.Prelude.{◌≡◌, ◌++◌, drop, OnOk};
-ghost use Rattle.pf_lexer.specs.Bytes.{is_word_byte};
+ghost use Rattle.std.specs.Prelude.{◌≡◌, ◌++◌, ◌<◌, drop, IfOk, OnOk, IsSomeAnd};
+ghost use Rattle.pf_lexer.specs.Bytes.{class_of, is_word_byte};
 ghost use Rattle.pf_lexer.specs.Cells.{bytes_of, first_cell};
+ghost use Rattle.pf_lexer.specs.Macros.{value_of};
 ghost use Rattle.pf_lexer.specs.Pieces.{is_in_line};
-ghost use Rattle.pf_lexer.specs.Reading.{front, beyond};
+ghost use Rattle.pf_lexer.specs.Reading.{front, beyond, step, weight};
+ghost use Rattle.pf_lexer.specs.declared.byte.ByteClass.TheVariants.{Dollar};
 
 use crate::byte::is_word_byte;
 use crate::cell::Cell;
 use crate::cells::FileCells;
+use crate::macros::Macros;
+use crate::token::{Fault, Lexeme};
+use crate::uses::{MacroUse, read_macro};
 use pf_base::{NoMemory, Place};
+use std::alloc::Global;
 use std::marker::Model;
 
 /// What is still to be read: the rest of a macro's value, and then the rest of the file. Clauses see the cells.
@@ -82,6 +88,25 @@ impl Reader {
                 break;
             }
             self.advance();
+        }
+    }
+
+    /// Reads what begins with a `$`: a fault, or a value that is put in.
+    pub fn read_macro(&mut self, alloc: Global, macros: &Macros) -> Result<Option<Lexeme>, NoMemory>
+        requires { IsSomeAnd (first_cell self.old) (λ cell. class_of cell.byte ≡ Dollar) }
+        ensures step { IfOk result (λ found. step (value_of macros.now) self.old ≡ (found, self.new)) }
+        ensures lighter { IfOk result (λ _. weight self.new < weight self.old) }
+    {
+        // A value in use has no `$`, so this one stands in the file.
+        let (place, found) = read_macro(alloc, &mut self.file, macros)?;
+        match found {
+            MacroUse::Refused(cause) => Ok(Some(Lexeme::Fault(Fault { cause, place }))),
+            MacroUse::Value(value) => {
+                self.value = value;
+                self.at = 0;
+                self.used = place;
+                Ok(None)
+            }
         }
     }
 }

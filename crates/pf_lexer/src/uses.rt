@@ -1,14 +1,16 @@
 //! The use of a macro, pf.conf(5), MACROS: `$` and a name.
-ghost use Rattle.std.specs.Prelude.{◌≡◌, ◌≤◌, ◌<◌, ◌^◌, ◌+◌, IfOk, length, take};
+ghost use Rattle.std.specs.Prelude.{◌≡◌, ◌≤◌, ◌<◌, ◌^◌, ◌+◌, IfOk, IsSomeAnd, length, take};
 ghost use Rattle.pf_base.specs.declared.fault.Place.{Place};
-ghost use Rattle.pf_lexer.specs.Cells.{has_dollar};
+ghost use Rattle.pf_lexer.specs.Bytes.{class_of};
+ghost use Rattle.pf_lexer.specs.Cells.{first_cell, has_dollar};
 ghost use Rattle.pf_lexer.specs.Macros.{value_of};
-ghost use Rattle.pf_lexer.specs.Reading.{macro_step, use_step, weight, IsPlainUse, IsUseOf};
+ghost use Rattle.pf_lexer.specs.declared.byte.ByteClass.TheVariants.{Dollar};
+ghost use Rattle.pf_lexer.specs.Reading.{step, macro_step, use_step, weight, IsPlainUse, IsUseOf};
 
 use crate::cells::FileCells;
 use crate::macros::Macros;
 use crate::token::Cause;
-use pf_base::{Name, NoMemory};
+use pf_base::{Name, NoMemory, Place};
 use std::alloc::Global;
 
 /// What stands behind a `$`.
@@ -61,7 +63,7 @@ fn look_up(alloc: Global, name: &[u8], macros: &Macros) -> Result<MacroUse, NoMe
 }
 
 /// Reads a macro's name behind `$`, and finds its value.
-pub fn read_use(
+fn read_use(
     alloc: Global,
     file: &mut FileCells,
     macros: &Macros,
@@ -77,4 +79,25 @@ pub fn read_use(
         MacroUse::Value(_) => {}
     }
     Ok(found)
+}
+
+/// Reads what begins with a `$` in a file: the place of the `$`, and what stands behind it.
+pub fn read_macro(
+    alloc: Global,
+    file: &mut FileCells,
+    macros: &Macros,
+) -> Result<(Place, MacroUse), NoMemory>
+    requires { IsSomeAnd (first_cell file.old) (λ cell. class_of cell.byte ≡ Dollar) }
+    ensures step { IfOk result (λ found. step (value_of macros.now) file.old ≡ use_step found.0 found.1 file.new) }
+    ensures plain { IfOk result (λ found. IsPlainUse found.1) }
+    ensures lighter { IfOk result (λ found. weight (use_step found.0 found.1 file.new).1 < weight file.old) }
+{
+    match file.peek() {
+        None => unreachable!(),
+        Some(dollar) => {
+            file.advance();
+            let found = read_use(alloc, file, macros)?;
+            Ok((dollar.place, found))
+        }
+    }
 }
