@@ -25,9 +25,9 @@ pub one_inserted : (old new : List (List ℕ × List ℕ)) (name value : List �
     → from_entries {R = slice_cmp nat_cmp} new ≡ insert (from_entries old) name value
 one_inserted old new name value differs =
     same_map nat_list_cmp_total (slice_cmp-IsAntisymmetric nat_cmp-IsAntisymmetric) _ _ (λ other.
-        get_is new other ∙ differs other
-        ∙ ap (λ b. cond b (Some value) (lookup (is_at (slice_cmp nat_cmp other)) old)) ((eq_by_cmp_equiv nat_list_cmp_total).symm name other)
-        ∙ sym (get-insert nat_list_cmp_total (from_entries old) name value other ∙ ap (cond (eq_by_cmp (slice_cmp nat_cmp) other name) (Some value)) (get_is old other)))
+    get_is new other ∙ differs other
+    ∙ ap (λ b. cond b (Some value) (lookup (is_at (slice_cmp nat_cmp other)) old)) ((eq_by_cmp_equiv nat_list_cmp_total).symm name other)
+    ∙ sym (get-insert nat_list_cmp_total (from_entries old) name value other ∙ ap (cond (eq_by_cmp (slice_cmp nat_cmp) other name) (Some value)) (get_is old other)))
 
 pub value_of_named : (macros : Values) (name : List ℕ) → IsNameText name → value_of macros name ≡ get macros name
 unfolding value_of
@@ -39,5 +39,5 @@ pub value_of_none : (macros : Values) (name : List ℕ) → (IsNameText name →
 unfolding value_of
 value_of_none macros name none =
     let test : (nat_le 1 (length name) && nat_le (length name) 63) ≡ false =
-        false_from_ne_true _ (λ e. let parts = and_parts _ _ e in none (record { some = leb-true _ _ parts.0; few = leb-true _ _ parts.1 })) in
+    false_from_ne_true _ (λ e. let parts = and_parts _ _ e in none (record { some = leb-true _ _ parts.0; few = leb-true _ _ parts.1 })) in
     rw test refl

@@ -101,7 +101,7 @@ module _ (values : List ℕ → Option (List ℕ)) where
       rest = [];
       joined = ap (λ t. opening ∷ t) (found.joined ∙ ap (λ t. found.inner ++ t) rest_is);
       piece = subst (λ t. Piece values (opening ∷ found.inner) [] (Some (cut_off quoted.known opening.place)) t) (sym after_is)
-        (unterminated is (subst (λ t. Between opening.byte found.inner t quoted.text quoted.known) rest_is found.between));
+          (unterminated is (subst (λ t. Between opening.byte found.inner t quoted.text quoted.known) rest_is found.between));
     }
 
   -- the step at a macro with a value

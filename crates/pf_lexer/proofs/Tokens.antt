@@ -1,9 +1,11 @@
 -- The next token of a text is one, so its list of tokens is one. How the code's steps lead to it.
-use Rattle.std.proofs.Common.{◌≡◌, ℕ, List, [], ◌∷◌, ◌++◌, Option, Some, None, refl, ap, sym, ◌∙◌, subst}
+use Rattle.std.proofs.Common.{◌≡◌, ℕ, List, [], ◌∷◌, ◌++◌, drop, Option, Some, None, refl, ap, sym, ◌∙◌, subst}
 use Rattle.pf_lexer.specs.declared.cell.Cell.{Cell}
 use Rattle.pf_lexer.specs.declared.token.Lexeme.{Lexeme}
+use Rattle.pf_lexer.specs.Cells.{first_cell}
 use Rattle.pf_lexer.specs.Pieces.{Piece, Next, NoMore, Reads}
 use Rattle.pf_lexer.specs.Reading.{Step, step}
+use Rattle.pf_lexer.proofs.DollarLemmas.{cells_are}
 use Rattle.pf_lexer.proofs.PieceSteps.{step_is, IsFirst, first_is}
 
 some_parts : {a b : Lexeme} {x y : List Cell} → ◌≡◌ {A = Step} (Some a, x) (Some b, y) → (a ≡ b) × (x ≡ y)
@@ -20,20 +22,40 @@ module _ (values : List ℕ → Option (List ℕ)) where
   stepped joined piece = ap (step values) joined ∙ step_is values piece
 
   -- what the code's steps give
-  pub next_here : (cell : Cell) (cells after : List Cell) (lexeme : Lexeme) → step values (cell ∷ cells) ≡ (Some lexeme, after) → Next values (cell ∷ cells) lexeme after
+  next_here : (cell : Cell) (cells after : List Cell) (lexeme : Lexeme) → step values (cell ∷ cells) ≡ (Some lexeme, after) → Next values (cell ∷ cells) lexeme after
   next_here cell cells after lexeme e =
       let first = subst (IsFirst values (cell ∷ cells)) e (first_is values cell cells) in
       Next.here first.joined first.piece
 
-  pub next_passed : (cell : Cell) (cells next after : List Cell) (lexeme : Lexeme) → step values (cell ∷ cells) ≡ (None, next) → Next values next lexeme after → Next values (cell ∷ cells) lexeme after
+  next_passed : (cell : Cell) (cells next after : List Cell) (lexeme : Lexeme) → step values (cell ∷ cells) ≡ (None, next) → Next values next lexeme after → Next values (cell ∷ cells) lexeme after
   next_passed cell cells next after lexeme e more =
       let first = subst (IsFirst values (cell ∷ cells)) e (first_is values cell cells) in
       Next.passed first.joined first.piece more
 
-  pub no_more_passed : (cell : Cell) (cells next : List Cell) → step values (cell ∷ cells) ≡ (None, next) → NoMore values next → NoMore values (cell ∷ cells)
+  no_more_passed : (cell : Cell) (cells next : List Cell) → step values (cell ∷ cells) ≡ (None, next) → NoMore values next → NoMore values (cell ∷ cells)
   no_more_passed cell cells next e more =
       let first = subst (IsFirst values (cell ∷ cells)) e (first_is values cell cells) in
       NoMore.passed first.joined first.piece more
+
+  -- the same where the cells are known by their first
+  pub here_at : (cells : List Cell) (cell : Cell) (after : List Cell) (lexeme : Lexeme) → Some cell ≡ first_cell cells → step values cells ≡ (Some lexeme, after) → Next values cells lexeme after
+  here_at cells cell after lexeme first e =
+      let are = cells_are cells cell first in
+      subst (λ t. Next values t lexeme after) (sym are) (next_here cell (drop 1 cells) after lexeme (ap (step values) (sym are) ∙ e))
+
+  pub passed_at : (cells : List Cell) (cell : Cell) (next : List Cell) → Some cell ≡ first_cell cells → step values cells ≡ (None, next) → (after : List Cell) (lexeme : Lexeme) → Next values next lexeme after → Next values cells lexeme after
+  passed_at cells cell next first e after lexeme more =
+      let are = cells_are cells cell first in
+      subst (λ t. Next values t lexeme after) (sym are) (next_passed cell (drop 1 cells) next after lexeme (ap (step values) (sym are) ∙ e) more)
+
+  pub no_more_at : (cells : List Cell) (cell : Cell) (next : List Cell) → Some cell ≡ first_cell cells → step values cells ≡ (None, next) → NoMore values next → NoMore values cells
+  no_more_at cells cell next first e more =
+      let are = cells_are cells cell first in
+      subst (NoMore values) (sym are) (no_more_passed cell (drop 1 cells) next (ap (step values) (sym are) ∙ e) more)
+
+  pub ended_at : (cells : List Cell) → None ≡ first_cell cells → NoMore values cells × (cells ≡ [])
+  ended_at [] e = (NoMore.ended, refl)
+  ended_at (cell ∷ cells) e = absurd cc
 
   after_some : {cells other : List Cell} {found : Lexeme} → Next values cells found other → (lexeme : Lexeme) (after : List Cell) → step values cells ≡ (Some lexeme, after) → (lexeme ≡ found) × (after ≡ other)
   after_some (Next.here joined piece) lexeme after e = some_parts (sym e ∙ stepped joined piece)

@@ -6,9 +6,10 @@ use Rattle.pf_base.specs.declared.fault.Place.{Place}
 use Rattle.pf_lexer.specs.declared.cell.Cell.{Cell}
 use Rattle.pf_lexer.specs.declared.uses.MacroUse.{MacroUse}
 use Rattle.pf_lexer.specs.declared.uses.MacroUse.TheVariants.{Refused, Value}
-use Rattle.pf_lexer.specs.Bytes.{is_name_byte, is_word_byte}
+use Rattle.pf_lexer.specs.Bytes.{class_of, is_known, is_name_byte}
 use Rattle.pf_lexer.specs.Cells.{cells_at, bytes_of, has_dollar}
-use Rattle.pf_lexer.specs.Reading.{weight, front, beyond, macro_step, named_step, use_step, left_after, IsUseOf, IsPlainUse}
+use Rattle.pf_lexer.specs.Pieces.{is_escape}
+use Rattle.pf_lexer.specs.Reading.{Quoted, quoted_from, prepended, weight, front, beyond, macro_step, named_step, use_step, left_after, IsUseOf, IsPlainUse}
 
 pub weight_beyond : (p : ℕ → Bool) (cells : List Cell) → weight (beyond p cells) ≤ weight cells
 unfolding beyond
@@ -44,3 +45,26 @@ pub use_is : (values : List ℕ → Option (List ℕ)) (place : Place) (old rest
 unfolding macro_step
 use_is values place old rest new name found name_is rest_is is new_is =
     (λ i. named_step place (sym name_is i) (values (sym name_is i)) (sym rest_is i)) ∙ is place rest ∙ ap (use_step place found) (sym new_is)
+
+-- what is left behind a string weighs no more
+choose : (a b : Bool) (x y z : Quoted) (most : ℕ) → weight x.after ≤ most → weight y.after ≤ most → weight z.after ≤ most → weight (cond a x (cond b y z)).after ≤ most
+choose true b x y z most p q r = p
+choose false true x y z most p q r = q
+choose false false x y z most p q r = r
+
+one_less : (b : Bool) (n m : ℕ) → n ≤ m → n ≤ cond b (2 ^ 64) 1 + m
+one_less true n m less = omega arith
+one_less false n m less = omega arith
+
+pub weight_quoted : (quote : ℕ) (cells : List Cell) → weight (quoted_from quote cells).after ≤ weight cells
+unfolding quoted_from
+weight_quoted quote [] = omega arith
+weight_quoted quote (cell ∷ []) = choose (cell.byte == quote) (cell.byte == 10) _ _ _ _ (omega arith) (omega arith) (omega arith)
+weight_quoted quote (cell ∷ next ∷ cells) = with_rests (weight_quoted quote cells) (weight_quoted quote (next ∷ cells)) where
+  with_rests : weight (quoted_from quote cells).after ≤ weight cells → weight (quoted_from quote (next ∷ cells)).after ≤ weight (next ∷ cells) → weight (quoted_from quote (cell ∷ next ∷ cells)).after ≤ weight (cell ∷ next ∷ cells)
+  with_rests two one =
+      let far = one_less (cell.byte == 36) _ _ (one_less (next.byte == 36) _ _ two) in
+      let near = one_less (cell.byte == 36) _ _ one in
+      let here = one_less (cell.byte == 36) (weight (next ∷ cells)) _ (omega arith) in
+      choose (cell.byte == quote) (cell.byte == 10) _ _ _ _ here near
+      (elim (is_escape quote (cell ∷ next ∷ [])) as (λ b. weight (cond b (prepended (next.byte ∷ []) true (quoted_from quote cells)) (prepended (cell.byte ∷ []) (is_known (class_of cell.byte)) (quoted_from quote (next ∷ cells)))).after ≤ weight (cell ∷ next ∷ cells)) [ true ↦ far | false ↦ near ])

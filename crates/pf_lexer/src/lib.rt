@@ -5,11 +5,14 @@
 mod byte;
 mod cell;
 mod cells;
+pub mod lexemes;
 pub mod macros;
+mod pieces;
 mod reader;
 mod strings;
 pub mod token;
 mod uses;
 
+pub use lexemes::tokens_of;
 pub use macros::{Define, Macros};
 pub use token::{Cause, Fault, Lexeme, Token, TokenKind};

@@ -1,7 +1,7 @@
 //! The bytes that are still to be read of a file and of a macro's value that is in use.
-ghost use Rattle.std.specs.Prelude.{◌≡◌, ◌++◌, ◌<◌, drop, IfOk, OnOk, IsSomeAnd};
+ghost use Rattle.std.specs.Prelude.{◌≡◌, ◌++◌, ◌+◌, ◌^◌, ◌<◌, length, drop, IfOk, OnOk, IsSomeAnd};
 ghost use Rattle.pf_lexer.specs.Bytes.{class_of, is_word_byte};
-ghost use Rattle.pf_lexer.specs.Cells.{bytes_of, first_cell};
+ghost use Rattle.pf_lexer.specs.Cells.{bytes_of, cells_from, first_cell};
 ghost use Rattle.pf_lexer.specs.Macros.{value_of};
 ghost use Rattle.pf_lexer.specs.Pieces.{is_in_line};
 ghost use Rattle.pf_lexer.specs.Reading.{front, beyond, step, weight};
@@ -13,7 +13,7 @@ use crate::cells::FileCells;
 use crate::macros::Macros;
 use crate::token::{Fault, Lexeme};
 use crate::uses::{MacroUse, read_macro};
-use pf_base::{NoMemory, Place};
+use pf_base::{NoMemory, Place, Text};
 use std::alloc::Global;
 use std::marker::Model;
 
@@ -39,6 +39,19 @@ impl Model for Reader {
 }
 
 impl Reader {
+    /// All of a file.
+    pub fn new(alloc: Global, text: Text, file: u64) -> Reader
+        requires { length text + 1 < 2 ^ 32 }
+        ensures { result ≡ cells_from (record { file = file; line = 1 }) text }
+    {
+        Reader {
+            value: Vec::new(alloc),
+            at: 0,
+            used: Place { file, line: 1 },
+            file: FileCells::new(text, file),
+        }
+    }
+
     /// The next cell.
     pub fn peek(&self) -> Option<Cell>
         ensures { result ≡ first_cell self.now }

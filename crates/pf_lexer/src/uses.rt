@@ -63,11 +63,7 @@ fn look_up(alloc: Global, name: &[u8], macros: &Macros) -> Result<MacroUse, NoMe
 }
 
 /// Reads a macro's name behind `$`, and finds its value.
-fn read_use(
-    alloc: Global,
-    file: &mut FileCells,
-    macros: &Macros,
-) -> Result<MacroUse, NoMemory>
+fn read_use(alloc: Global, file: &mut FileCells, macros: &Macros) -> Result<MacroUse, NoMemory>
     ensures step { IfOk result (λ found. (place : Place) → macro_step (value_of macros.now) place file.old ≡ use_step place found file.new) }
     ensures plain { IfOk result IsPlainUse }
     ensures lighter { IfOk result (λ found. (place : Place) → weight (use_step place found file.new).1 < 2 ^ 64 + weight file.old) }

@@ -18,7 +18,7 @@ returns-in_err-value c =
     let macros = c.args.self.now in
     rw c.from_residual-in_err-value.ensures
     (c.in_err-value.ensures.value ∙ sym (get_is c.self.inside.values.entries c.in_ok-name.name) ∙ ap (λ m. get m c.in_ok-name.name) c.self.view_is
-     ∙ ap (get macros) same ∙ sym (value_of_named macros c.args.name.now named))
+    ∙ ap (get macros) same ∙ sym (value_of_named macros c.args.name.now named))
 
 pub returns : goal.returns
 returns c =
@@ -27,4 +27,4 @@ returns c =
     let macros = c.args.self.now in
     ap Some c.items.ensures
     ∙ (c.in_ok-value.ensures.value ∙ sym (get_is c.self.inside.values.entries c.in_ok-name.name) ∙ ap (λ m. get m c.in_ok-name.name) c.self.view_is
-     ∙ ap (get macros) same ∙ sym (value_of_named macros c.args.name.now named))
+    ∙ ap (get macros) same ∙ sym (value_of_named macros c.args.name.now named))
