@@ -32,3 +32,6 @@ pub fn tokens_of(
     }
     Ok(found)
 }
+
+#[cfg(test)]
+mod tests;
