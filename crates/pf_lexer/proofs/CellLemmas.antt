@@ -1,10 +1,8 @@
 -- The cells of a text, one at a time.
-use Rattle.std.proofs.Common.{◌≡◌, ℕ, ◌+◌, ◌-◌, ◌<◌, ◌≤◌, ◌^◌, Bool, true, false, cond, List, [], ◌∷◌, length, drop, get_or, Option, Some, None, refl, ap, sym, ◌∙◌, subst, arith}
-use Rattle.std.specs.Prelude.{◌==◌, ◌&&◌}
+use Rattle.std.proofs.Common.{◌≡◌, ℕ, ◌+◌, ◌<◌, ◌≤◌, true, false, List, [], ◌∷◌, length, drop, get_or, Some, refl, ap, sym, ◌∙◌, arith}
 use Rattle.std.proofs.lemmas.List.{drop_more, drop_all, drop-drop, length-drop}
 use Rattle.pf_base.specs.declared.fault.Place.{Place}
-use Rattle.pf_lexer.specs.declared.cell.Cell.{Cell}
-use Rattle.pf_lexer.specs.Cells.{cells_from, below, place_after, first_cell, is_continued, CountsLines, StandsIn}
+use Rattle.pf_lexer.specs.Cells.{cells_from, below, place_after, first_cell, is_continued, CountsLines}
 
 -- the first cell of a text, where no continuation stands
 cells_here : (place : Place) (byte : ℕ) (rest : List ℕ) → is_continued (byte ∷ rest) ≡ false → cells_from place (byte ∷ rest) ≡ record { byte = byte; place = place } ∷ cells_from (place_after place byte) rest

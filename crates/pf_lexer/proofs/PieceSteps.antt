@@ -1,5 +1,5 @@
 -- The pieces of a text are those that the code finds, so a text has one list of tokens.
-use Rattle.std.proofs.Common.{◌≡◌, ℕ, Bool, true, false, cond, List, [], ◌∷◌, ◌++◌, Option, Some, None, refl, ap, sym, ◌∙◌, subst, append_assoc}
+use Rattle.std.proofs.Common.{◌≡◌, ℕ, Bool, true, false, List, [], ◌∷◌, ◌++◌, Option, Some, None, refl, ap, sym, ◌∙◌, subst, append_assoc}
 use Rattle.std.specs.Prelude.{take, ◌==◌, if◌then◌else◌}
 use Rattle.pf_base.specs.declared.fault.Place.{Place}
 use Rattle.pf_lexer.specs.declared.byte.ByteClass.{ByteClass}
@@ -10,7 +10,7 @@ use Rattle.pf_lexer.specs.declared.token.Cause.TheVariants as causes
 use Rattle.pf_lexer.specs.declared.token.Lexeme.{Lexeme}
 use Rattle.pf_lexer.specs.Bytes.{class_of, is_word_byte, is_name_byte}
 use Rattle.pf_lexer.specs.Cells.{cells_at, bytes_of, stops, has_dollar}
-use Rattle.pf_lexer.specs.Pieces.{Piece, blank, comment, newline, sign, string, unterminated, word, bad, used, unnamed, undefined, nested, Next, NoMore, Reads, token, fault, is_in_line, string_of, cut_off, Between, IsLongestRun}
+use Rattle.pf_lexer.specs.Pieces.{Piece, blank, comment, newline, sign, string, unterminated, word, bad, used, unnamed, undefined, nested, token, fault, is_in_line, string_of, cut_off, Between, IsLongestRun}
 use Rattle.pf_lexer.specs.Reading.{Step, Quoted, step, step_by, front, beyond, quoted_from, quoted_step, macro_step, named_step, value_step}
 use Rattle.pf_lexer.proofs.Runs.{joined, longest, front_is, beyond_is}
 use Rattle.pf_lexer.proofs.QuotedLemmas.{IsQuoteByte-from_class, between_is, found_between, quoted_closed, IsBetween, EndsWith}

@@ -1,11 +1,11 @@
 -- What is left of a macro's value that is in use.
-use Rattle.std.proofs.Common.{◌≡◌, ℕ, ◌+◌, ◌<◌, ◌≤◌, false, List, [], ◌∷◌, ◌++◌, length, drop, get_or, sym, ap, ◌∙◌, arith}
+use Rattle.std.proofs.Common.{◌≡◌, ℕ, ◌+◌, ◌<◌, ◌≤◌, List, ◌++◌, length, drop, get_or, sym, ap, ◌∙◌, arith}
 use Rattle.std.specs.Prelude.{◌==◌}
 use Rattle.std.proofs.lemmas.Bool.{or_parts}
 use Rattle.std.proofs.lemmas.List.{drop_more, drop_all}
 use Rattle.pf_base.specs.declared.fault.Place.{Place}
 use Rattle.pf_lexer.specs.declared.cell.Cell.{Cell}
-use Rattle.pf_lexer.specs.Cells.{cells_at, first_cell, has_dollar, IsValueRest}
+use Rattle.pf_lexer.specs.Cells.{cells_at, has_dollar, IsValueRest}
 
 module _ (value : List ℕ) (at : ℕ) where
   pub IsValueRest-next : IsValueRest value at → at < length value → IsValueRest value (at + 1)

@@ -1,6 +1,5 @@
 -- The tokens so far with those of the rest are all, and a text has one list of tokens.
-use Rattle.std.proofs.Common.{◌++◌, ◌∷◌, [], List, sym, ap, ◌∙◌, subst, append-nil, append_assoc}
-use Rattle.pf_lexer.specs.declared.token.Lexeme.{Lexeme}
+use Rattle.std.proofs.Common.{◌++◌, ◌∷◌, [], sym, ap, ◌∙◌, subst, append-nil, append_assoc}
 use Rattle.pf_lexer.specs.Cells.{cells_from}
 use Rattle.pf_lexer.specs.Macros.{value_of}
 use Rattle.pf_lexer.specs.Pieces.{Reads}

@@ -1,8 +1,7 @@
 -- A piece is a token, or is passed, or nothing is left.
-use Rattle.std.proofs.Common.{Option, Some, None, sym, ap, ◌∙◌, arith}
+use Rattle.std.proofs.Common.{Option, sym, ap, ◌∙◌, arith}
 use Rattle.pf_lexer.specs.declared.token.Lexeme.{Lexeme}
 use Rattle.pf_lexer.specs.Macros.{value_of}
-use Rattle.pf_lexer.specs.Reading.{Step}
 use Rattle.pf_lexer.proofs.Tokens.{here_at, passed_at, no_more_at, ended_at}
 use Rattle.pf_lexer.proofs.pieces.next_lexeme.Goals as goal
 

@@ -1,7 +1,6 @@
 -- The step at each class of byte.
-use Rattle.std.proofs.Common.{◌≡◌, ◌+◌, ◌<◌, ◌≤◌, ◌^◌, ℕ, List, ◌∷◌, [], ◌++◌, Option, Some, None, drop, sym, ap, ◌∙◌, arith}
+use Rattle.std.proofs.Common.{◌∷◌, ◌++◌, Some, None, sym, ap, ◌∙◌, arith}
 use Rattle.pf_lexer.specs.declared.byte.ByteClass.TheVariants.{Blank, Newline, Sign, Quote, Hash, Plain, Bad}
-use Rattle.pf_lexer.specs.declared.cell.Cell.{Cell}
 use Rattle.pf_lexer.specs.declared.token.TokenKind.TheVariants as kinds
 use Rattle.pf_lexer.specs.declared.token.Cause.TheVariants as causes
 use Rattle.pf_lexer.specs.Bytes.{is_word_byte}

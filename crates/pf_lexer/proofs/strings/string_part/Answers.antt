@@ -1,5 +1,5 @@
 -- Each kind of cell between quotes.
-use Rattle.std.proofs.Common.{drop, sym, ap, ◌∙◌, ◌∷◌, []}
+use Rattle.std.proofs.Common.{sym, ap, ◌∙◌, ◌∷◌, []}
 use Rattle.std.proofs.lemmas.Bool.{ne_eqb, eq-eqb}
 use Rattle.pf_lexer.specs.Bytes.{class_of, is_known}
 use Rattle.pf_lexer.specs.Reading.{quoted_from, prepended}

@@ -1,5 +1,5 @@
 -- The first 63 bytes, or all.
-use Rattle.std.proofs.Common.{length, min, take, ap, ◌∙◌, arith}
+use Rattle.std.proofs.Common.{take, ap, ◌∙◌, arith}
 use Rattle.std.proofs.lemmas.List.{take_min}
 use Rattle.pf_lexer.proofs.uses.first_bytes.Goals as goal
 

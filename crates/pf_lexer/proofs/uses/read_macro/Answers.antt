@@ -1,5 +1,5 @@
 -- The step at the `$`.
-use Rattle.std.proofs.Common.{◌≡◌, ◌+◌, ◌<◌, ◌^◌, drop, sym, ap, ◌∙◌, subst, arith}
+use Rattle.std.proofs.Common.{◌≡◌, sym, ap, ◌∙◌, subst, arith}
 use Rattle.std.specs.Prelude.{IsSomeAnd}
 use Rattle.pf_lexer.specs.declared.cell.Cell.{Cell}
 use Rattle.pf_lexer.specs.Bytes.{class_of}

@@ -2,7 +2,7 @@
 use Rattle.std.proofs.Common.{◌≡◌, ◌≤◌, sym, ap, ◌∙◌, arith}
 use Rattle.pf_lexer.specs.Bytes.{is_name_byte, is_word_byte}
 use Rattle.pf_lexer.specs.Macros.{value_of}
-use Rattle.pf_lexer.specs.Reading.{left_after, weight, beyond}
+use Rattle.pf_lexer.specs.Reading.{left_after, weight}
 use Rattle.pf_lexer.proofs.Weights.{weight_beyond, use_lighter, use_is}
 use Rattle.pf_lexer.proofs.uses.read_use.Goals as goal
 use Rattle.pf_lexer.proofs.uses.read_use.Goals.{In_ok-found, in-Refused, in-Value}

@@ -1,5 +1,5 @@
 -- The rest behind the first cell.
-use Rattle.std.proofs.Common.{◌+◌, ◌<◌, ◌≤◌, length, drop, sym, ap, ◌∙◌}
+use Rattle.std.proofs.Common.{◌+◌, drop, sym, ap, ◌∙◌}
 use Rattle.pf_lexer.specs.Cells.{cells_from}
 use Rattle.pf_lexer.proofs.CellLemmas.{rest_next, none_left}
 use Rattle.pf_lexer.proofs.cells.FileCells.advance.Goals as goal

@@ -1,5 +1,5 @@
 -- The first cell of the rest.
-use Rattle.std.proofs.Common.{◌<◌, ◌≤◌, length, sym, ap, ◌∙◌}
+use Rattle.std.proofs.Common.{sym, ap, ◌∙◌}
 use Rattle.pf_lexer.specs.Cells.{first_cell}
 use Rattle.pf_lexer.proofs.CellLemmas.{first_next, none_left}
 use Rattle.pf_lexer.proofs.cells.FileCells.peek.Goals as goal

@@ -2,7 +2,6 @@
 use Rattle.std.proofs.Common.{ap, sym, ◌∙◌}
 use Rattle.std.specs.Prelude.{Some, refl}
 use Rattle.std.specs.FinMap.{get}
-use Rattle.std.specs.Option.{option_copied}
 use Rattle.std.proofs.lemmas.Bool.{false≢true}
 use Rattle.pf_lexer.proofs.MapLemmas.{get_is, value_of_named, value_of_none}
 use Rattle.pf_lexer.proofs.macros.Macros.find.Goals as goal

@@ -1,5 +1,5 @@
 -- What is left of the value is still such a rest, and the first cell is gone.
-use Rattle.std.proofs.Common.{◌<◌, length, drop, ap, ◌∙◌, arith}
+use Rattle.std.proofs.Common.{drop, ap, ◌∙◌, arith}
 use Rattle.pf_lexer.proofs.ValueLemmas.{IsValueRest-next, value_next}
 use Rattle.pf_lexer.proofs.reader.Reader.advance.Goals as goal
 

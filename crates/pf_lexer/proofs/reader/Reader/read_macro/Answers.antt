@@ -1,5 +1,5 @@
 -- The value in use is over, so the `$` stands in the file.
-use Rattle.std.proofs.Common.{◌≡◌, ℕ, ◌++◌, ◌<◌, false, List, [], Option, Some, drop, sym, ap, ◌∙◌, subst, arith}
+use Rattle.std.proofs.Common.{◌≡◌, ℕ, ◌++◌, false, List, [], Some, drop, sym, ap, ◌∙◌, subst, arith}
 use Rattle.std.specs.Prelude.{IsSomeAnd}
 use Rattle.pf_lexer.specs.declared.byte.ByteClass.TheVariants.{Dollar}
 use Rattle.pf_lexer.specs.declared.cell.Cell.{Cell}
