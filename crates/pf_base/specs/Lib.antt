@@ -1,3 +1,5 @@
+pub mod Decimal
 pub mod Name
 pub mod NameKept
 pub mod Padding
+pub mod Text

@@ -1,6 +1,5 @@
 -- A name's bytes give its fields back.
-use Rattle.std.specs.Prelude.{◌≡◌, ◌≤◌, length, take, refl}
-use Rattle.std.proofs.Common.{ap, ◌∙◌}
+use Rattle.std.specs.Prelude.{◌≡◌, ◌≤◌, length, take}
 use Rattle.pf_base.specs.Padding.{IsPadded, padded, padded_front, length_front}
 use Rattle.pf_base.specs.declared.name.Name.TheInside.{Inside}
 

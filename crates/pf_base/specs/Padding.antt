@@ -1,5 +1,5 @@
 -- A short list kept in an array: the items in front, and a fill behind them.
-use Rattle.std.specs.Prelude.{◌≡◌, ℕ, ◌-◌, ◌≤◌, List, ◌++◌, length, take, drop, replicate, refl}
+use Rattle.std.specs.Prelude.{◌≡◌, ℕ, ◌-◌, ◌≤◌, List, ◌++◌, length, take, drop, replicate}
 use Rattle.std.proofs.Common.{sym, ◌∙◌, ap, arith}
 use Rattle.std.proofs.lemmas.List.{take-append-drop, length-take-le, length-append, length-drop, length-replicate, drop-replicate}
 use Rattle.std.proofs.Math.Seq.{drop-append_seam}

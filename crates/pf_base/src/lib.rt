@@ -8,9 +8,12 @@ pub mod kind;
 pub mod list;
 pub mod memory;
 pub mod name;
+pub mod steps;
+pub mod text;
 
 pub use fault::{FaultKind, Place};
 pub use kind::{Family, Level};
 pub use list::{List, Text};
 pub use memory::NoMemory;
 pub use name::Name;
+pub use steps::{Ledger, Steps};

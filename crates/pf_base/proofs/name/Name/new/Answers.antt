@@ -1,5 +1,5 @@
-use Rattle.std.proofs.Common.{◌≡◌, ℕ, ◌-◌, ◌≤◌, length, ◌++◌, replicate, subst, sym, arith, rules}
-use Rattle.pf_base.specs.Padding.{IsPadded, IsPadded-made}
+use Rattle.std.proofs.Common.{◌≤◌, length, arith, rules}
+use Rattle.pf_base.specs.Padding.{IsPadded-made}
 use Rattle.pf_base.proofs.name.Name.new.Goals as goal
 
 -- the bytes lie in front of the zeros

@@ -1,0 +1,93 @@
+//! Cuts a text into lines, words and fields, and reads decimal numbers.
+ghost use Rattle.std.specs.Prelude.{◌≡◌, ℕ, List, [], ◌∷◌, ◌++◌, ◌<◌, ◌≤◌, length, IfSome, IfNone, MatchOption, position, not, ◌==◌};
+ghost use Rattle.pf_base.specs.Decimal.{decimal_of};
+ghost use Rattle.pf_base.specs.Text.{CutsLine, CutsWord, EndsNoLine, LinesGoOn, fields_of, is_blank, is_newline, is_space, words_of};
+
+const NEWLINE: u8 = b'\n';
+
+/// Is the byte a space or a tab?
+pub fn is_blank_byte(byte: u8) -> bool
+    ensures { result ≡ is_blank byte }
+{
+    byte == b' ' || byte == b'\t'
+}
+
+// The first place of the byte.
+fn place_of(text: &[u8], byte: u8) -> Option<usize>
+    ensures { result ≡ position (λ b. b == byte) text.now }
+{
+    text.iter().position(|b| *b == byte)
+}
+
+// The first place of a blank.
+fn place_of_blank(text: &[u8]) -> Option<usize>
+    ensures { result ≡ position is_blank text.now }
+{
+    text.iter().position(|byte| is_blank_byte(*byte))
+}
+
+// The first place of a byte that is no blank.
+fn place_of_word(text: &[u8]) -> Option<usize>
+    ensures { result ≡ position (λ byte. not (is_blank byte)) text.now }
+{
+    text.iter().position(|byte| !is_blank_byte(*byte))
+}
+
+/// The first line, without its newline, and what stands behind it; None where no newline is left.
+pub fn split_line(text: &[u8]) -> Option<(&[u8], &[u8])>
+    ensures line { IfSome result (λ cut. CutsLine text.now cut.0.now cut.1.now) }
+    ensures none { IfNone result (EndsNoLine text.now) }
+{
+    let end = place_of(text, NEWLINE)?;
+    Some((&text[..end], &text[end + 1..]))
+}
+
+/// A text that goes on has its lines, and then those of its unfinished line with what follows.
+pub fn lines_go_on()
+    ensures { (text more : List ℕ) → LinesGoOn text more }
+{}
+
+/// The first word between blanks, and what stands behind it; None where no word is left.
+pub fn split_word(text: &[u8]) -> Option<(&[u8], &[u8])>
+    ensures word { IfSome result (λ cut. CutsWord text.now cut.0.now cut.1.now) }
+    ensures shorter { IfSome result (λ cut. length cut.1.now < length text.now) }
+    ensures none { IfNone result (words_of text.now ≡ []) }
+{
+    let start = place_of_word(text)?;
+    let word = &text[start..];
+    match place_of_blank(word) {
+        None => Some((word, &[])),
+        Some(end) => Some((&word[..end], &word[end..])),
+    }
+}
+
+/// The first field before a single space, and what stands behind that space, where there is one.
+pub fn split_field(text: &[u8]) -> (&[u8], Option<&[u8]>)
+    ensures last { IfNone result.1 (fields_of text.now ≡ result.0.now ∷ []) }
+    ensures more { IfSome result.1 (λ rest. fields_of text.now ≡ result.0.now ∷ fields_of rest.now) }
+{
+    match place_of(text, b' ') {
+        None => (text, None),
+        Some(end) => (&text[..end], Some(&text[end + 1..])),
+    }
+}
+
+/// The number of a text of decimal digits, where it is at most `most`. Leading zeros may stand.
+pub fn decimal(text: &[u8], most: u32) -> Option<u32>
+    ensures { result ≡ decimal_of most text.now }
+{
+    if text.is_empty() {
+        return None;
+    }
+    let mut value = 0u64;
+    for byte in text {
+        if !byte.is_ascii_digit() {
+            return None;
+        }
+        value = 10 * value + u64::from(*byte - b'0');
+        if value > u64::from(most) {
+            return None;
+        }
+    }
+    Some(value as u32)
+}

@@ -1,0 +1,3 @@
+pub mod Decisions
+pub mod Walks
+pub mod Words

@@ -1,0 +1,147 @@
+-- What a run over lines is, for any machine and any step of it.
+use Rattle.std.specs.Prelude.{◌≡◌, ℕ, ◌≤◌, Bool, true, false, ◌||◌, List, [], ◌∷◌, ◌++◌, length, take, map, Option, Some, None, nat_eq, if◌then◌else◌, option_map}
+use Rattle.std.specs.List.{flat_map}
+use Rattle.std.specs.Cmp.Lexicographic.{pointwise}
+use Rattle.std.specs.Io.KnownBytes.{Appends, Keeps}
+use Rattle.pf_source.specs.Causes.{RoseBy}
+use Rattle.pf_source.specs.Files.{StaysHeld}
+use Rattle.pf_source.specs.Told.{FilesTold, SinkTold, Told, file_of}
+
+-- What files hold: the bytes under each name, or None where a read fails
+abbrev pub Disk : Type 0
+Disk = List ℕ → Option (List ℕ)
+
+-- What one line does: the machine after it, the lines of the reply, whether it was refused, and the files it was
+-- refused for because they can't be read
+pub record Stepped (M : Type 0) : Type 0 where
+  pub machine : M
+  pub reply : List (List ℕ)
+  pub refused : Bool
+  pub unread : List (List ℕ)
+
+-- The step of a machine: by the files, the machine before and the line
+abbrev pub Step : Type 0 → Type 0
+Step M = Disk → M → List ℕ → Stepped M
+
+-- An outage: the file of this name is as if absent
+abbrev pub without : Option (List ℕ) → Disk → Disk
+without None disk = disk
+without (Some absent) disk = λ name. if pointwise nat_eq name absent then None else disk name
+
+-- A line is executed, with an outage or none
+pub record Event : Type 0 where
+  pub line : List ℕ
+  pub outage : Option (List ℕ)
+
+abbrev pub lines_in : List Event → List (List ℕ)
+lines_in events = map (λ event. event.line) events
+
+abbrev pub HaveNoOutage : List Event → Type 0
+HaveNoOutage [] = Unit {0}
+HaveNoOutage (event ∷ events) = (event.outage ≡ None) × HaveNoOutage events
+
+-- the bytes of a reply: each line with a newline
+abbrev pub reply_text : List (List ℕ) → List ℕ
+reply_text reply = flat_map (λ line. line ++ 10 ∷ []) reply
+
+-- what one event does
+abbrev pub stepped : {M : Type 0} → Step M → Disk → M → Event → Stepped M
+stepped step disk machine event = step (without event.outage disk) machine event.line
+
+-- the machine after events
+abbrev pub machine_after : {M : Type 0} → Step M → Disk → M → List Event → M
+machine_after step disk machine [] = machine
+machine_after step disk machine (event ∷ events) = machine_after step disk (stepped step disk machine event).machine events
+
+-- what is written: the replies to the events, one after another
+abbrev pub output : {M : Type 0} → Step M → Disk → M → List Event → List ℕ
+output step disk machine [] = []
+output step disk machine (event ∷ events) = reply_text (stepped step disk machine event).reply ++ output step disk (stepped step disk machine event).machine events
+
+-- was some line refused?
+abbrev pub any_refused : {M : Type 0} → Step M → Disk → M → List Event → Bool
+any_refused step disk machine [] = false
+any_refused step disk machine (event ∷ events) = (stepped step disk machine event).refused || any_refused step disk (stepped step disk machine event).machine events
+
+-- the names of the files for which lines were refused because they can't be read, in the order of the lines
+abbrev pub unread : {M : Type 0} → Step M → Disk → M → List Event → List (List ℕ)
+unread step disk machine [] = []
+unread step disk machine (event ∷ events) = (stepped step disk machine event).unread ++ unread step disk (stepped step disk machine event).machine events
+
+-- What stands at one moment: the machine, whether some line was refused so far, and what the files and the sink tell
+pub record World (M : Type 0) : Type 0 where
+  pub machine : M
+  pub refused : Bool
+  pub files : FilesTold
+  pub sink : SinkTold
+
+-- where the names of failed reads are told, these were added at their end
+abbrev pub AddsNames : List (List ℕ) → Option (List (List ℕ)) → Option (List (List ℕ)) → Type 0
+AddsNames added old new = new ≡ option_map (λ names. names ++ added) old
+
+-- From before to after, these events were executed, each to its end, and nothing else was done.
+pub record Goes {M : Type 0} (step : Step M) (disk : Disk) (before : World M) (events : List Event) (after : World M) : Type 0 where
+  pub machine : after.machine ≡ machine_after step disk before.machine events
+  pub refused : after.refused ≡ (before.refused || any_refused step disk before.machine events)
+  pub written : Appends before.sink.written after.sink.written (output step disk before.machine events)
+  pub held : StaysHeld before.files after.files
+  -- each line that was refused for a file, and so each outage that shows, is one of the reads that failed
+  pub counted : RoseBy (length (unread step disk before.machine events)) before.files.faults after.files.faults
+  pub named : AddsNames (unread step disk before.machine events) before.files.failed after.files.failed
+  -- steady files have no outage
+  pub sure : before.files.steady ≡ true → HaveNoOutage events
+
+-- These lines were executed, each to its end, with some outages.
+pub record Executes {M : Type 0} (step : Step M) (disk : Disk) (lines : List (List ℕ)) (before after : World M) : Type 0 where
+  pub events : List Event
+  pub are : lines_in events ≡ lines
+  pub goes : Goes step disk before events after
+
+-- One line was executed, with an outage or none: the machine after it, the files after it, the bytes of its reply,
+-- which aren't written yet, and whether it was refused.
+pub record Answers {M : Type 0} (step : Step M) (disk : Disk) (line : List ℕ) (before : M) (files : FilesTold) (after : M) (files' : FilesTold) (reply : List ℕ) (refused : Bool) : Type 0 where
+  pub outage : Option (List ℕ)
+  pub machine : after ≡ (step (without outage disk) before line).machine
+  pub replies : reply ≡ reply_text (step (without outage disk) before line).reply
+  pub refuses : refused ≡ (step (without outage disk) before line).refused
+  pub held : StaysHeld files files'
+  pub counted : RoseBy (length (step (without outage disk) before line).unread) files.faults files'.faults
+  pub named : AddsNames (step (without outage disk) before line).unread files.failed files'.failed
+  pub sure : files.steady ≡ true → outage ≡ None
+
+-- A line was executed, and of its reply a front was written; then the write failed.
+pub record CutsReply {M : Type 0} (step : Step M) (disk : Disk) (line : List ℕ) (before after : World M) : Type 0 where
+  pub machine : M
+  pub reply : List ℕ
+  pub refused : Bool
+  pub answers : Answers step disk line before.machine before.files machine after.files reply refused
+  pub taken : ℕ
+  pub written : Appends before.sink.written after.sink.written (take taken reply)
+
+-- Nothing was written; a read may have failed.
+pub record WritesNothing {M : Type 0} (before after : World M) : Type 0 where
+  pub written : Keeps before.sink.written after.sink.written
+  pub counted : before.files.faults ≤ after.files.faults
+  pub more : List (List ℕ)
+  pub named : AddsNames more before.files.failed after.files.failed
+
+-- why a run stops before its end
+pub data Cause : Type 0 where
+  Write_failed : Cause
+  Out_of_memory : Cause
+
+-- the line that was being executed when the run stopped, or none
+abbrev pub StopsAt : {M : Type 0} → Step M → Disk → Cause → List (List ℕ) → World M → World M → Type 0
+StopsAt step disk Write_failed [] before after = ⊥
+StopsAt step disk Write_failed (line ∷ lines) before after = CutsReply step disk line before after
+StopsAt step disk Out_of_memory lines before after = WritesNothing before after
+
+-- A front of the lines was executed, and then the run stopped: a write of the next line's reply failed, or memory ran out.
+pub record Stops {M : Type 0} (step : Step M) (disk : Disk) (cause : Cause) (lines : List (List ℕ)) (before after : World M) : Type 0 where
+  pub front : List (List ℕ)
+  pub rest : List (List ℕ)
+  pub are : lines ≡ front ++ rest
+  pub mid : World M
+  pub executes : Executes step disk front before mid
+  pub stops : StopsAt step disk cause rest mid after
+  pub held : StaysHeld before.files after.files
