@@ -1,0 +1,9 @@
+pub mod CellLemmas
+pub mod DollarLemmas
+pub mod MapLemmas
+pub mod Runs
+pub mod QuotedLemmas
+pub mod ValueLemmas
+pub mod Weights
+pub mod PieceSteps
+pub mod Tokens

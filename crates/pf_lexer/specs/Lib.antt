@@ -1,0 +1,5 @@
+pub mod Bytes
+pub mod Cells
+pub mod Macros
+pub mod Pieces
+pub mod Reading
