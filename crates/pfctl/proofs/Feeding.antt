@@ -19,7 +19,7 @@ pub test_lines-append : (xs ys : List (List ℕ)) → test_lines (xs ++ ys) ≡ 
 test_lines-append [] ys = refl
 test_lines-append (x ∷ xs) ys =
     elim (says_something x) as (λ b. map test_line (cond b (x ∷ filter says_something (xs ++ ys)) (filter says_something (xs ++ ys))) ≡ map test_line (cond b (x ∷ filter says_something xs) (filter says_something xs)) ++ test_lines ys) [
-      true ↦ ap (λ rest. test_line x ∷ rest) (test_lines-append xs ys)
+      | true ↦ ap (λ rest. test_line x ∷ rest) (test_lines-append xs ys)
       | false ↦ test_lines-append xs ys
     ]
 

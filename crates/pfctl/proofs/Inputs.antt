@@ -132,9 +132,9 @@ one_piece first now last a b c old mid new kept kept' piece allowed allowed' h c
 pub stops_in_piece : (why : Stop) (first now last : Session) (a b c : SourceTold) (old mid new : SinkTold) (kept piece used more : List ℕ) (allowed : ℕ) → SoFar first now a b old mid kept allowed → Consumes b.left c.left piece → c.given ≡ b.given + length piece → piece ≡ used ++ more → StopsOver why now last mid new (whole_lines (kept ++ used)) → ReadsUntilStop a c (StopsOver why first last old new)
 stops_in_piece why first now last a b c old mid new kept piece used more allowed h consumed given parts stops =
     let here : StopsOver why first last old new (whole_lines (h.front ++ used)) =
-        subst (λ (ls : List (List ℕ)). StopsOver why first last old new ls) (joined_lines h.front kept used h.tail) (stops_over_more why first now last old mid new (whole_lines h.front) (whole_lines (kept ++ used)) h.runs stops) in
+    subst (λ (ls : List (List ℕ)). StopsOver why first last old new ls) (joined_lines h.front kept used h.tail) (stops_over_more why first now last old mid new (whole_lines h.front) (whole_lines (kept ++ used)) h.runs stops) in
     let all : whole_lines (h.front ++ used) ++ whole_lines (unfinished (h.front ++ used) ++ more) ≡ whole_lines (h.front ++ piece) =
-        sym (lines_go_on_lem (h.front ++ used) more).whole ∙ ap whole_lines (append_assoc h.front used more ∙ ap (λ rest. h.front ++ rest) (sym parts)) in
+    sym (lines_go_on_lem (h.front ++ used) more).whole ∙ ap whole_lines (append_assoc h.front used more ∙ ap (λ rest. h.front ++ rest) (sym parts)) in
     record {
       front = h.front ++ piece;
       reads = reads_more a b c h.front piece h.reads consumed given;
@@ -147,7 +147,7 @@ stops_in_piece why first now last a b c old mid new kept piece used more allowed
 pub ends_past_limit : (first now last : Session) (a b c : SourceTold) (old mid new : SinkTold) (kept piece used more : List ℕ) (allowed : ℕ) → SoFar first now a b old mid kept allowed → Consumes b.left c.left piece → c.given ≡ b.given + length piece → piece ≡ used ++ more → length used ≡ allowed → 0 < length more → RunsOver now last mid new (whole_lines (kept ++ used)) → ReadsPastLimit a c (RunsOver first last old new)
 ends_past_limit first now last a b c old mid new kept piece used more allowed h consumed given parts long some runs =
     let here : RunsOver first last old new (whole_lines (h.front ++ used)) =
-        subst (λ (ls : List (List ℕ)). RunsOver first last old new ls) (joined_lines h.front kept used h.tail) (runs_over_more first now last old mid new (whole_lines h.front) (whole_lines (kept ++ used)) h.runs runs) in
+    subst (λ (ls : List (List ℕ)). RunsOver first last old new ls) (joined_lines h.front kept used h.tail) (runs_over_more first now last old mid new (whole_lines h.front) (whole_lines (kept ++ used)) h.runs runs) in
     let most : length (h.front ++ used) ≡ most_input = let left = h.left in rw (length-append h.front used) (omega arith) in
     let whole : h.front ++ piece ≡ (h.front ++ used) ++ more = ap (λ rest. h.front ++ rest) parts ∙ sym (append_assoc h.front used more) in
     let front : take most_input (h.front ++ piece) ≡ h.front ++ used = ap (take most_input) whole ∙ (ap (λ n. take n ((h.front ++ used) ++ more)) (sym most) ∙ take-append_seam (h.front ++ used) more) in

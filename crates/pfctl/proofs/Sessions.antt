@@ -54,7 +54,7 @@ test_unread disk machine (byte ∷ text) = test_packet_unread machine (packet_of
 pub test_reads_nothing : (disk : Disk) (machine : Machine) (record_text : List ℕ) → (step disk machine (test_line record_text)).unread ≡ []
 test_reads_nothing disk machine record_text =
     elim (list_all is_plain record_text) as (λ b. list_all is_plain record_text ≡ b → (step disk machine (test_line record_text)).unread ≡ []) [
-      true ↦ λ h. ap (λ (s : Stepped Machine). s.unread) (step_test_line disk machine record_text h) ∙ test_unread disk machine (behind_blanks record_text)
+      | true ↦ λ h. ap (λ (s : Stepped Machine). s.unread) (step_test_line disk machine record_text h) ∙ test_unread disk machine (behind_blanks record_text)
       | false ↦ λ h. ap (λ (s : Stepped Machine). s.unread) (step_test_bad disk machine record_text h)
     ] refl
 

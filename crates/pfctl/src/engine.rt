@@ -87,7 +87,7 @@ impl Engine {
     ghost use Rattle.pfctl.specs.Doing.{Does, MayFail, is_refused};
     ghost use Rattle.pfctl.specs.Machine.{empty_machine};
     ghost use Rattle.pfctl.specs.Input.{test_line};
-ghost use Rattle.pfctl.specs.Program.{is_file_word, load_line};
+    ghost use Rattle.pfctl.specs.Program.{is_file_word, load_line};
     ghost use Rattle.pfctl.specs.Step.{load_text, most_file, step, step_test};
 
     /// The empty machine.

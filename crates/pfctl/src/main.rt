@@ -3,19 +3,17 @@
 //! files, input and output, and hands on the status.
 #![tactic(auto)]
 
-
 mod engine;
 mod program;
 mod replies;
 mod session;
-
-
+#[cfg(test)]
+mod tests;
 
 use pf_source::{RealFiles, RealSink, RealSource};
 use program::{Status, run};
-use std::env;
-use std::io;
 use std::process::ExitCode;
+use std::{env, io};
 
 // The words behind the program's name.
 fn words_of(rt: &HostRuntime) -> io::Result<Vec<String>> {

@@ -35,7 +35,6 @@ impl Status {
     }
 }
 
-
 // Is the byte one of 33 to 126?
 fn is_visible_byte(byte: u8) -> bool
     ensures { result ≡ is_visible byte }
@@ -82,8 +81,8 @@ pub fn run<F: Files, S: Source, W: Sink>(
     // What each status means, where the files tell what they hold.
     ensures means { IfSome (file_named (map string_bytes words.now)) (λ file. Told (F.tells files.old).held (λ held.
         Means file (file_of held)
-            (outside (F.tells files.old) (S.tells input.old) (W.tells out.old))
-            (outside (F.tells files.new) (S.tells input.new) (W.tells out.new)) result)) }
+        (outside (F.tells files.old) (S.tells input.old) (W.tells out.old))
+        (outside (F.tells files.new) (S.tells input.new) (W.tells out.new)) result)) }
     // The words alone decide whether they are read; where they aren't, nothing is read or written.
     ensures words { (result ≡ Status.Words) ↔ IsNone (file_named (map string_bytes words.now)) }
     // Why a status comes, also where nothing is told.

@@ -65,7 +65,6 @@ pub struct Session {
     reply: Vec<u8>,
 }
 
-
 // Writes a reply whole.
 fn send<W: Sink>(out: &mut W, reply: &[u8]) -> Result<(), Stop>
     ensures sends { Sends (W.tells out.old) (W.tells out.new) reply.now result }

@@ -29,7 +29,7 @@ returns-then-not-is_plain_text c =
     let text = c.args.record.now in
     λ disk. refuses disk machine text c.reply_bad_command.new.reply.items
     (elim c.then-not-is_plain_text.branch [
-      then-not-is_plain_text-via-then-not-is_plain_text w ↦ step_test_bad disk machine text (sym c.is_plain_text.ensures ∙ w.if-not-is_plain_text.true)
+      | then-not-is_plain_text-via-then-not-is_plain_text w ↦ step_test_bad disk machine text (sym c.is_plain_text.ensures ∙ w.if-not-is_plain_text.true)
       | then-not-is_plain_text-via-else-not-is_plain_text+then-is_empty w ↦ empty_refuses disk machine text c.skip_blanks-text.result.now (sym c.is_plain_text.ensures ∙ w.if-not-is_plain_text.false) c.skip_blanks-text.ensures (sym w.is_empty.ensures ∙ w.if-is_empty.true)
     ]) c.in_ok-reply_bad_command.ensures
 
@@ -42,7 +42,7 @@ returns c =
     let machine = c.args.self.now in
     let text = c.skip_blanks-text.result.now in
     IfOk-weaker c.answer.result _ _ (λ outcome does disk.
-        let e : step disk machine (test_line c.args.record.now) ≡ step_test machine text =
-            step_test_line disk machine c.args.record.now (sym c.is_plain_text.ensures ∙ c.if-not-is_plain_text.false)
-            ∙ (ap (λ t. step_command disk machine (test_of t)) (sym c.skip_blanks-text.ensures) ∙ tests disk machine text (sym c.is_empty.ensures ∙ c.if-is_empty.false)) in
-        subst (λ (s : Stepped Machine). Does s machine c.answer.new.reply.items (is_refused outcome)) (sym e) does) c.answer.ensures
+    let e : step disk machine (test_line c.args.record.now) ≡ step_test machine text =
+    step_test_line disk machine c.args.record.now (sym c.is_plain_text.ensures ∙ c.if-not-is_plain_text.false)
+    ∙ (ap (λ t. step_command disk machine (test_of t)) (sym c.skip_blanks-text.ensures) ∙ tests disk machine text (sym c.is_empty.ensures ∙ c.if-is_empty.false)) in
+    subst (λ (s : Stepped Machine). Does s machine c.answer.new.reply.items (is_refused outcome)) (sym e) does) c.answer.ensures
