@@ -5,7 +5,7 @@ use Rattle.std.specs.Cmp.Lexicographic.{pointwise}
 use Rattle.std.specs.Io.KnownBytes.{Appends, Keeps}
 use Rattle.pf_source.specs.Causes.{RoseBy}
 use Rattle.pf_source.specs.Files.{StaysHeld}
-use Rattle.pf_source.specs.Told.{FilesTold, SinkTold, Told, file_of}
+use Rattle.pf_source.specs.Told.{FilesTold, SinkTold}
 
 -- What files hold: the bytes under each name, or None where a read fails
 abbrev pub Disk : Type 0

@@ -1,17 +1,15 @@
 -- The lines of the input, executed one after another as they become whole.
-use Rattle.std.proofs.Common.{◌≡◌, ℕ, ◌+◌, ◌<◌, ◌≤◌, Bool, true, false, List, [], ◌∷◌, ◌++◌, length, map, cond, Option, Some, None, refl, sym, ap, ◌∙◌, subst, append_assoc, append-nil}
+use Rattle.std.proofs.Common.{◌≡◌, ℕ, true, false, List, [], ◌∷◌, ◌++◌, map, cond, refl, sym, ap, ◌∙◌, subst, append_assoc, append-nil}
 use Rattle.std.specs.List.{filter}
-use Rattle.std.specs.Io.KnownBytes.{Keeps}
-use Rattle.pf_base.specs.Text.{whole_lines, unfinished, lines_of, line_of_rest, IsOneLine, CutsLine, EndsNoLine}
-use Rattle.pf_source.specs.Told.{FilesTold, SinkTold}
-use Rattle.pf_runs.specs.Runs.{Disk, World, Cause, Executes, Stops, Out_of_memory}
+use Rattle.pf_base.specs.Text.{whole_lines, unfinished, IsOneLine, CutsLine, EndsNoLine}
+use Rattle.pf_source.specs.Told.{SinkTold}
+use Rattle.pf_runs.specs.Runs.{Executes, Stops}
 use Rattle.pf_runs.proofs.RunLemmas.{executes_nothing, executes_on, stops_on, stops_sooner}
 use Rattle.pfctl.specs.declared.session.Session.{Session}
 use Rattle.pfctl.specs.declared.session.Stop.{Stop}
 use Rattle.pfctl.specs.declared.session.Stop.TheVariants as stop
 use Rattle.pfctl.specs.Doing.{RunsOver, StopsOver, cause_of, world}
 use Rattle.pfctl.specs.Input.{says_something, test_line, test_lines}
-use Rattle.pfctl.specs.Machine.{Machine}
 use Rattle.pfctl.specs.Step.{step}
 use Rattle.pfctl.proofs.Sessions.{Keeps-same, may_fail_same, no_memory}
 

@@ -1,18 +1,17 @@
 -- The input, read piece by piece.
-use Rattle.std.proofs.Common.{◌≡◌, ℕ, zero, suc, ◌+◌, ◌-◌, ◌<◌, ◌≤◌, Bool, true, false, List, [], ◌∷◌, ◌++◌, length, take, drop, Option, Some, None, refl, sym, ap, ◌∙◌, subst, append_assoc, append-nil, arith, length-append, inl, inr}
+use Rattle.std.proofs.Common.{◌≡◌, ℕ, ◌+◌, ◌<◌, ◌≤◌, List, [], ◌∷◌, ◌++◌, length, take, drop, Option, Some, None, refl, sym, ap, ◌∙◌, subst, append_assoc, append-nil, arith, length-append, inl, inr}
 use Rattle.std.specs.Io.KnownBytes.{Consumes, IsAtEnd, Keeps}
 use Rattle.std.proofs.lemmas.List.{take-take, take-append-drop}
 use Rattle.std.proofs.Math.Seq.{take-append_seam}
 use Rattle.pf_base.specs.Text.{whole_lines, unfinished, lines_of, line_of_rest, IsOneLine}
 use Rattle.pf_base.proofs.Lines.{lines_go_on_lem}
-use Rattle.pf_source.specs.Causes.{Rose, RoseBy}
-use Rattle.pf_source.specs.Told.{FilesTold, SinkTold, SourceTold}
+use Rattle.pf_source.specs.Causes.{RoseBy}
+use Rattle.pf_source.specs.Told.{SinkTold, SourceTold}
 use Rattle.pf_runs.specs.Runs.{Executes, Stops}
 use Rattle.pfctl.specs.declared.session.Session.{Session}
 use Rattle.pfctl.specs.declared.session.Stop.{Stop}
-use Rattle.pfctl.specs.declared.session.Stop.TheVariants as stop
 use Rattle.pfctl.specs.Doing.{ReadsAll, ReadsPastLimit, ReadsUntilFault, ReadsUntilStop, RunsOver, StopsOver, cause_of, world}
-use Rattle.pfctl.specs.Input.{LinesRead, Reads, most_input, test_lines}
+use Rattle.pfctl.specs.Input.{Reads, most_input, test_lines}
 use Rattle.pfctl.specs.Step.{step}
 use Rattle.pfctl.proofs.Feeding.{runs_over_nothing, runs_over_more, stops_over_more, stops_over_sooner, test_lines-append}
 

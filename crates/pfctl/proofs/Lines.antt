@@ -1,17 +1,17 @@
 -- What the machine does with the lines that the program builds.
-use Rattle.std.proofs.Common.{◌≡◌, ℕ, Bool, true, false, not, ◌&&◌, cond, List, [], ◌∷◌, ◌++◌, length, codes, refl, sym, ap, ◌∙◌, subst, nat_le, arith}
+use Rattle.std.proofs.Common.{◌≡◌, ℕ, Bool, true, false, not, List, [], ◌∷◌, refl, ap, ◌∙◌, arith}
 use Rattle.std.proofs.lemmas.Bool.Decides.{nat_tests}
 use Rattle.std.specs.List.{list_all}
 use Rattle.std.specs.Cmp.{first_so, second_so}
-use Rattle.pf_base.specs.Text.{is_blank, is_nothing, words_of}
+use Rattle.pf_base.specs.Text.{is_blank, words_of}
 use Rattle.pf_base.proofs.Words.{one_word, empty_has_none}
 use Rattle.pf_runs.specs.Runs.{Disk}
-use Rattle.pfctl.specs.Command.{is_plain, behind_blanks, leading_word, behind_word, begins_with_dash, test_of, load_of, command_of}
+use Rattle.pfctl.specs.Command.{is_plain, behind_blanks, begins_with_dash, test_of, command_of}
 use Rattle.pfctl.specs.Machine.{Machine}
 use Rattle.pfctl.specs.Input.{test_line}
 use Rattle.pfctl.specs.Program.{is_file_word, is_visible, load_line}
 use Rattle.pfctl.specs.Replies.{bad_command_text}
-use Rattle.pfctl.specs.Step.{refused, step_command, step_load, step_test, step}
+use Rattle.pfctl.specs.Step.{refused, step_command, step_load, step}
 
 -- a `test` line of plain bytes has the record behind its blanks
 pub step_test_line : (disk : Disk) (machine : Machine) (record_text : List ℕ) → list_all is_plain record_text ≡ true → step disk machine (test_line record_text) ≡ step_command disk machine (test_of (behind_blanks record_text))

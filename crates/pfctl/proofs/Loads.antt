@@ -1,6 +1,5 @@
 -- What a load does, by what the read of its file gave.
-use Rattle.std.proofs.Common.{◌≡◌, ℕ, ◌+◌, ◌<◌, ◌≤◌, Bool, true, false, cond, List, [], ◌∷◌, ◌++◌, length, codes, Option, Some, None, Result, Ok, Err, refl, sym, ap, ◌∙◌, subst, nat_le, arith}
-use Rattle.std.specs.Str.{bytes_eq}
+use Rattle.std.proofs.Common.{◌≡◌, ℕ, Bool, true, false, cond, List, [], ◌∷◌, length, codes, Option, Some, None, Result, Ok, Err, refl, sym, ap, ◌∙◌, nat_le}
 use Rattle.std.proofs.lemmas.Bool.{lt-leb, eq-eqb}
 use Rattle.std.specs.Cmp.Lexicographic.{pointwise}
 use Rattle.std.specs.Prelude.{nat_eq}
@@ -8,7 +7,7 @@ use Rattle.pf_rule.specs.declared.rule.Rule.{Rule}
 use Rattle.pf_load.specs.Load.{rules_of}
 use Rattle.pf_source.specs.Causes.{RoseBy}
 use Rattle.pf_source.specs.Files.{StaysHeld, IsLonger}
-use Rattle.pf_source.specs.Told.{FilesTold, Held, Told, file_of}
+use Rattle.pf_source.specs.Told.{FilesTold, Told, file_of}
 use Rattle.pf_runs.specs.Runs.{Disk, Stepped, AddsNames, Answers, reply_text, without}
 use Rattle.pfctl.specs.Doing.{Does, MayFail}
 use Rattle.pfctl.specs.Machine.{Machine}

@@ -1,8 +1,6 @@
 -- A run of the program: the load, and then the input.
-use Rattle.std.proofs.Common.{◌≡◌, ℕ, ◌+◌, ◌<◌, ◌≤◌, ◌==◌, ◌&&◌, get_or, Bool, true, false, List, [], ◌∷◌, ◌++◌, length, take, not, Option, Some, None, Result, Ok, Err, refl, sym, ap, ◌∙◌, subst, arith, inl, inr}
-use Rattle.std.specs.Io.KnownBytes.{Consumes}
-use Rattle.pf_base.specs.Text.{whole_lines, unfinished, lines_of}
-use Rattle.pf_source.specs.Causes.{Rose}
+use Rattle.std.proofs.Common.{◌≡◌, ℕ, ◌<◌, ◌==◌, ◌&&◌, get_or, Bool, true, false, List, [], ◌∷◌, length, take, Ok, Err, refl, sym, subst, arith, inl}
+use Rattle.pf_base.specs.Text.{whole_lines, lines_of}
 use Rattle.pf_source.specs.Told.{FilesTold, SinkTold, SourceTold}
 use Rattle.pf_runs.specs.Runs.{Disk, World, Executes, Stops}
 use Rattle.pf_runs.proofs.RunLemmas.{executes_on, stops_on}
@@ -12,10 +10,10 @@ use Rattle.pfctl.specs.declared.session.Ending.{Ending}
 use Rattle.pfctl.specs.declared.session.Ending.TheVariants as ending
 use Rattle.pfctl.specs.declared.session.Stop.{Stop}
 use Rattle.pfctl.specs.declared.session.Stop.TheVariants as stop
-use Rattle.pfctl.specs.Doing.{EndsInput, FailsByCount, GivesWithin, ReadsAll, ReadsPastLimit, ReadsUntilFault, ReadsUntilStop, RunsOver, StopsOver, cause_of, world}
+use Rattle.pfctl.specs.Doing.{EndsInput, ReadsAll, ReadsUntilStop, RunsOver, StopsOver, cause_of, world}
 use Rattle.pfctl.specs.Input.{most_input, test_lines}
 use Rattle.pfctl.specs.Machine.{Machine, empty_machine}
-use Rattle.pfctl.specs.Program.{Broke, Finished, HasCause, Means, Outside, Ran, ReadFailed, ReadTooMuch, Stopped, is_file_word, is_visible, load_line, opening, outside, program_lines, status_at, status_by}
+use Rattle.pfctl.specs.Program.{Broke, Finished, Means, Ran, is_file_word, is_visible, load_line, opening, outside, program_lines, status_at, status_by}
 use Rattle.pfctl.specs.Step.{step}
 use Rattle.pfctl.proofs.Inputs.{Consumes-nothing}
 use Rattle.pfctl.proofs.Sessions.{Keeps-same, may_fail_same, no_memory}

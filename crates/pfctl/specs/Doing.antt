@@ -1,5 +1,5 @@
 -- What the parts of the program do: a step of the machine, a write of its reply, lines that are executed.
-use Rattle.std.specs.Prelude.{◌≡◌, ℕ, ◌+◌, ◌<◌, ◌≤◌, Bool, true, false, List, length, take, Option, Result, Ok, Err}
+use Rattle.std.specs.Prelude.{◌≡◌, ℕ, ◌+◌, ◌<◌, ◌≤◌, Bool, true, false, List, length, take, Result, Ok, Err}
 use Rattle.std.specs.Io.KnownBytes.{Appends, IsAtEnd, Keeps}
 use Rattle.pf_base.specs.Text.{lines_of, whole_lines}
 use Rattle.pf_source.specs.Causes.{Rose}

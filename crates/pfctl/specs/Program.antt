@@ -129,3 +129,13 @@ abbrev pub status_by : Result Status Stop → Status
 status_by (Ok result) = result
 status_by (Err stop.WriteFault) = status.WriteFault
 status_by (Err stop.NoMemory) = status.NoMemory
+
+-- the exit status of the process
+abbrev pub exit_number : Status → ℕ
+exit_number status.Done = 0
+exit_number status.Refused = 1
+exit_number status.Words = 2
+exit_number status.ReadFault = 3
+exit_number status.WriteFault = 4
+exit_number status.NoMemory = 5
+exit_number status.TooMuchInput = 6

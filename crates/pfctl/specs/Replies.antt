@@ -1,5 +1,5 @@
 -- The text of the replies.
-use Rattle.std.specs.Prelude.{ℕ, List, [], ◌∷◌, ◌++◌, length, codes}
+use Rattle.std.specs.Prelude.{ℕ, List, ◌++◌, codes}
 use Rattle.std.specs.Fmt.{decimal}
 use Rattle.pf_base.specs.declared.fault.FaultKind.{FaultKind}
 use Rattle.pf_base.specs.declared.fault.FaultKind.TheVariants as kinds

@@ -1,7 +1,7 @@
-use Rattle.std.proofs.Common.{◌≡◌, List, [], ◌∷◌, sym, ap, ◌∙◌, subst, refl}
+use Rattle.std.proofs.Common.{sym, ◌∙◌}
 use Rattle.std.proofs.lemmas.Result.{err_from_is_err_and}
 use Rattle.pf_source.specs.Told.{file_of}
-use Rattle.pfctl.proofs.Programs.{begins, means_ended, means_stopped, means_unloaded, means_nothing, status_at_is_read, stop_is_read}
+use Rattle.pfctl.proofs.Programs.{begins, means_ended, means_stopped, means_unloaded, means_nothing}
 use Rattle.pfctl.proofs.program.execute.Goals as goal
 
 pub returns-in_err-from_slice-clause-means : goal.returns-in_err-from_slice-clause-means

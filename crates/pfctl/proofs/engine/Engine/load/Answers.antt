@@ -1,7 +1,6 @@
-use Rattle.std.proofs.Common.{◌≡◌, List, [], ◌∷◌, sym, subst, ap, ◌∙◌}
+use Rattle.std.proofs.Common.{[], ◌∷◌}
 use Rattle.std.proofs.lemmas.Result.{err_from_is_err_and, IfOk-weaker}
-use Rattle.pfctl.specs.Doing.{Does, is_refused}
-use Rattle.pfctl.specs.Step.{load_text}
+use Rattle.pfctl.specs.Doing.{is_refused}
 use Rattle.pfctl.proofs.Loads.{load_answers, large_answers, unread_answers, may_fail}
 use Rattle.pfctl.proofs.engine.Engine.load.Goals as goal
 

@@ -1,8 +1,6 @@
-use Rattle.std.proofs.Common.{◌≡◌, ◌≤◌, List, [], ◌∷◌, ◌++◌, Err, sym, ap, ◌∙◌, subst, arith}
+use Rattle.std.proofs.Common.{◌++◌, Err, ◌∙◌, arith}
 use Rattle.std.proofs.lemmas.Result.{err_from_is_err_and}
-use Rattle.pf_base.specs.Text.{CutsLine}
-use Rattle.pfctl.specs.Doing.{RunsOver, StopsOver}
-use Rattle.pfctl.proofs.Feeding.{Fed, fed_nothing, fed_line, fed_stops, fed_no_memory, fed_all}
+use Rattle.pfctl.proofs.Feeding.{fed_nothing, fed_line, fed_stops, fed_no_memory}
 use Rattle.pfctl.proofs.Sessions.{fails_later}
 use Rattle.pfctl.proofs.session.Session.feed.Goals as goal
 

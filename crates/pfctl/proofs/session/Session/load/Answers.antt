@@ -1,4 +1,4 @@
-use Rattle.std.proofs.Common.{◌≡◌, Bool, true, false, ◌||◌, List, [], ◌∷◌, ap, sym, rules}
+use Rattle.std.proofs.Common.{◌||◌, [], ◌∷◌, ap}
 use Rattle.std.proofs.lemmas.Result.{err_from_is_err_and}
 use Rattle.pf_source.specs.Told.{file_of}
 use Rattle.pf_runs.proofs.RunLemmas.{executes_answered}

@@ -1,8 +1,7 @@
-use Rattle.std.proofs.Common.{◌≡◌, ℕ, ◌+◌, ◌-◌, ◌<◌, ◌≤◌, List, [], ◌∷◌, ◌++◌, length, take, drop, sym, ap, ◌∙◌, subst, arith, append-nil}
-use Rattle.std.proofs.lemmas.List.{length-take-le, take-append-drop, length-drop}
+use Rattle.std.proofs.Common.{◌≡◌, ◌-◌, [], length, take, drop, sym, arith, append-nil}
+use Rattle.std.proofs.lemmas.List.{length-take-le, length-drop}
 use Rattle.std.proofs.lemmas.Result.{err_from_is_err_and}
-use Rattle.std.specs.Io.KnownBytes.{Consumes}
-use Rattle.pfctl.proofs.Inputs.{SoFar, kept_is_one_line, nothing_so_far, ends_whole, stops_at_last, one_piece, stops_in_piece, ends_past_limit, first_of_piece}
+use Rattle.pfctl.proofs.Inputs.{kept_is_one_line, nothing_so_far, ends_whole, stops_at_last, one_piece, stops_in_piece, ends_past_limit, first_of_piece}
 use Rattle.pfctl.proofs.session.Session.read_input.Goals as goal
 
 pub loop-count-init : goal.loop-count-init

@@ -1,4 +1,3 @@
-use Rattle.std.proofs.Common.{◌+◌}
 use Rattle.pfctl.proofs.Inputs.{SoFar}
 use Rattle.pfctl.proofs.session.Session.read_input.Given as goal
 
