@@ -79,7 +79,7 @@ pub record World (M : Type 0) : Type 0 where
 abbrev pub AddsNames : List (List ℕ) → Option (List (List ℕ)) → Option (List (List ℕ)) → Type 0
 AddsNames added old new = new ≡ option_map (λ names. names ++ added) old
 
--- From before to after, these events were executed, each to its end, and nothing else was done.
+-- From before to after, these events were executed, each to its end, and nothing else was written.
 pub record Goes {M : Type 0} (step : Step M) (disk : Disk) (before : World M) (events : List Event) (after : World M) : Type 0 where
   pub machine : after.machine ≡ machine_after step disk before.machine events
   pub refused : after.refused ≡ (before.refused || any_refused step disk before.machine events)

@@ -109,8 +109,8 @@ Means file disk before after status.TooMuchInput = ReadTooMuch file disk before 
 
 -- why a status comes, by counts and numbers alone
 abbrev pub HasCause : Outside → Outside → Status → Type 0
-HasCause before after status.Done = after.source.given ≤ before.source.given + most_input
-HasCause before after status.Refused = after.source.given ≤ before.source.given + most_input
+HasCause before after status.Done = IsAtEnd after.source.left × (after.source.given ≤ before.source.given + most_input)
+HasCause before after status.Refused = IsAtEnd after.source.left × (after.source.given ≤ before.source.given + most_input)
 HasCause before after status.Words = after ≡ before
 HasCause before after status.ReadFault = Rose before.source.faults after.source.faults × (after.source.given ≤ before.source.given + most_input)
 HasCause before after status.WriteFault = Rose before.sink.faults after.sink.faults

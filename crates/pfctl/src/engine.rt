@@ -23,7 +23,9 @@ const MOST_FILE: u64 = 4_194_304;
 /// What came of a line.
 #[derive(Clone, Copy, Debug, PartialEq, Eq)]
 pub enum Outcome {
+    /// It was done.
     Done,
+    /// It was refused, and changed nothing.
     Refused,
 }
 
@@ -108,7 +110,9 @@ impl Engine {
         reply: &mut Vec<u8>,
     ) -> Result<Outcome, NoMemory>
         requires { length text.now ≤ most_file }
-        ensures { IfOk result (λ outcome. Does (load_text self.old file.now text.now) self.new reply.new.items (is_refused outcome)) }
+        ensures does { IfOk result (λ outcome. Does (load_text self.old file.now text.now) self.new reply.new.items (is_refused outcome)) }
+        ensures unchanged { OnErr result (self.new ≡ self.old) }
+        ensures refused { result ≡ Ok Outcome.Refused → self.new ≡ self.old }
     {
         match read_rules(alloc, text) {
             Ok(rules) => {
@@ -136,6 +140,8 @@ impl Engine {
         ensures answers { IfOk result (λ outcome. Told (F.tells files.old).held (λ held.
             Answers step (file_of held) (load_line file.now) self.old (F.tells files.old) self.new (F.tells files.new) reply.new.items (is_refused outcome))) }
         ensures err { OnErr result (MayFail (F.tells files.old) (F.tells files.new)) }
+        ensures unchanged { OnErr result (self.new ≡ self.old) }
+        ensures refused { result ≡ Ok Outcome.Refused → self.new ≡ self.old }
     {
         match files.read(alloc, file, MOST_FILE) {
             Ok(text) => self.load_rules(alloc, file.items(), text.items(), reply),

@@ -31,7 +31,7 @@ pub enum Status {
 impl Status {
     ghost use Rattle.pfctl.specs.Program.{exit_number};
 
-    /// The exit status of the process, 0 to 6 (pfctl(8), EXIT STATUS).
+    /// The exit status of the process, 0 to 6 (see `man/pfctl.8`).
     pub fn exit_status(self) -> u8
         ensures { result ≡ exit_number self }
     {

@@ -19,7 +19,7 @@ returns-in-Ok-clause-answers g c =
     let names = c.items.ensures in
     IfOk-weaker c.load_rules.result _ _ (λ outcome does.
     load_answers (tells c.args.files.now) (tells c.read.new.self) c.args.self.now c.load_rules.new.self c.args.file.now read.text c.load_rules.new.reply.items (is_refused outcome)
-    c.requires read.ensures.held read.ensures.faults read.ensures.failed read.ensures.content (rw (c.items.ensures, c.items-in-Ok.ensures) at does)) c.load_rules.ensures
+    c.requires read.ensures.held read.ensures.faults read.ensures.failed read.ensures.content (rw (c.items.ensures, c.items-in-Ok.ensures) at does)) c.load_rules.ensures.does
 
 pub returns-in_ok-reply_cannot_read-in-Err-Failed-clause-answers :
     goal.returns-in_ok-reply_cannot_read-in-Err-Failed-clause-answers
