@@ -6,7 +6,7 @@ ghost use Rattle.pfctl.specs.Program.{HasCause, Means, file_named, is_file_word,
 
 use crate::session::{Ending, Session, Stop};
 use pf_base::List;
-use pf_source::{Files, Sink, Source};
+use pf_source::{Files, Sink, Source, SureFiles, SureSink, SureSource};
 use std::alloc::Global;
 
 /// How the program ends. The exit status is 0 to 6 in this order.
@@ -102,6 +102,26 @@ pub fn run<F: Files, S: Source, W: Sink>(
             Err(Stop::NoMemory) => Status::NoMemory,
         },
     }
+}
+
+/// The same over objects that never fail: it ends with the plain machine's whole output, or past the input's limit, or
+/// for want of memory.
+pub fn run_surely(
+    alloc: Global,
+    words: &[String],
+    files: &mut SureFiles,
+    input: &mut SureSource,
+    out: &mut SureSink,
+) -> Status
+    ensures means { IfSome (file_named (map string_bytes words.now)) (λ file. Told (⟦<SureFiles as Files>⟧.tells files.old).held (λ held.
+        Means file (file_of held)
+        (outside (⟦<SureFiles as Files>⟧.tells files.old) (⟦<SureSource as Source>⟧.tells input.old) (⟦<SureSink as Sink>⟧.tells out.old))
+        (outside (⟦<SureFiles as Files>⟧.tells files.new) (⟦<SureSource as Source>⟧.tells input.new) (⟦<SureSink as Sink>⟧.tells out.new)) result)) }
+    ensures words { (result ≡ Status.Words) ↔ IsNone (file_named (map string_bytes words.now)) }
+    ensures reads { result ≢ Status.ReadFault }
+    ensures writes { result ≢ Status.WriteFault }
+{
+    run(alloc, words, files, input, out)
 }
 
 // The load, and then the input.

@@ -1,8 +1,9 @@
 //! Runs of the program over objects in memory. The expected replies were worked out by hand.
-use super::program::{Status, run};
+use super::program::{Status, run, run_surely};
 use pf_base::{List, Text};
 use pf_source::{
-    FailedWrite, HeldFile, MemoryFiles, MemorySink, MemorySource, SureFiles, SureSink, SureSource,
+    Failed, FailedWrite, HeldFile, MemoryFiles, MemorySink, MemorySource, Source, SureFiles,
+    SureSink, SureSource,
 };
 use std::alloc::{AllocError, Global};
 use std::process::Abort;
@@ -44,7 +45,7 @@ fn check(
     let mut files = SureFiles::new(held(alloc, "f.conf", conf)?);
     let mut source = SureSource::new(text(alloc, input)?);
     let mut sink = SureSink::new(alloc);
-    let got = run(alloc, words.as_slice(), &mut files, &mut source, &mut sink);
+    let got = run_surely(alloc, words.as_slice(), &mut files, &mut source, &mut sink);
     assert_eq!(rt; got, status, "{conf} {input}");
     assert_eq!(rt; sink.written(), want.as_bytes(), "{conf} {input}");
     Ok(())
@@ -253,5 +254,60 @@ fn large_files(rt: HostRuntime) -> Result<(), Fail> {
         let _ = run(alloc, words.as_slice(), &mut files, &mut source, &mut sink);
         assert_eq!(rt; sink.written(), want.as_bytes());
     }
+    Ok(())
+}
+
+// A source that gives one byte at a time.
+#[derive(Drop)]
+struct Dribble {
+    inner: SureSource,
+}
+
+impl Source for Dribble {
+    ghost tells = { λ source. ⟦<SureSource as Source>⟧.tells source.inner };
+
+    fn read(&mut self, buf: &mut [u8]) -> Result<usize, Failed> {
+        if buf.is_empty() {
+            return self.inner.read(buf);
+        }
+        self.inner.read(&mut buf[..1])
+    }
+}
+
+#[test]
+fn one_byte_at_a_time(rt: HostRuntime) -> Result<(), Fail> {
+    let alloc = rt.alloc();
+    let words = words(alloc, &["-f", "f.conf"])?;
+    let mut files = SureFiles::new(held(alloc, "f.conf", CONF)?);
+    let mut source = Dribble {
+        inner: SureSource::new(text(alloc, "out em0 17\n\n# x\nin em0 17")?),
+    };
+    let mut sink = SureSink::new(alloc);
+    let got = run(alloc, words.as_slice(), &mut files, &mut source, &mut sink);
+    assert_eq!(rt; got, Status::Done);
+    assert_eq!(rt;
+        sink.written(),
+        b"ok load rulesets=1 rules=3 tables=0\nblock drop\npass keep state\n".as_slice()
+    );
+    Ok(())
+}
+
+// A first load whose read fails, and a second over the same files that is read.
+#[test]
+fn a_file_that_comes_back(rt: HostRuntime) -> Result<(), Fail> {
+    let alloc = rt.alloc();
+    let words = words(alloc, &["-f", "f.conf"])?;
+    let mut files = MemoryFiles::new(alloc, held(alloc, "f.conf", CONF)?, vec![in alloc; 1]?);
+    for (status, want) in [
+        (Status::Refused, "refused 3 CannotRead f.conf\n"),
+        (Status::Done, "ok load rulesets=1 rules=3 tables=0\n"),
+    ] {
+        let mut source = SureSource::new(text(alloc, "")?);
+        let mut sink = SureSink::new(alloc);
+        let got = run(alloc, words.as_slice(), &mut files, &mut source, &mut sink);
+        assert_eq!(rt; got, status);
+        assert_eq!(rt; sink.written(), want.as_bytes());
+    }
+    assert_eq!(rt; files.failed().len(), 1);
     Ok(())
 }
