@@ -1,8 +1,8 @@
 -- What comes next of a file is one thing, so its statements are one list.
-use Rattle.std.proofs.Common.{◌≡◌, ℕ, Bool, true, false, cond, List, [], ◌∷◌, Option, Some, None, refl, ap, sym, ◌∙◌, subst}
+use Rattle.std.proofs.Common.{◌≡◌, ℕ, false, cond, List, [], ◌∷◌, Option, Some, None, refl, ap, sym, ◌∙◌, subst}
 use Rattle.pf_lexer.specs.declared.cell.Cell.{Cell}
 use Rattle.pf_lexer.specs.declared.statement.Close.{Close}
-use Rattle.pf_lexer.specs.declared.statement.Close.TheVariants.{End, Line, Body, Long}
+use Rattle.pf_lexer.specs.declared.statement.Close.TheVariants.{End, Line}
 use Rattle.pf_lexer.specs.declared.token.Fault.{Fault as FaultOf}
 use Rattle.pf_lexer.specs.declared.token.Lexeme.{Lexeme}
 use Rattle.pf_lexer.specs.declared.unit.Statement.{Statement}

@@ -1,19 +1,18 @@
 -- What each kind of token makes of a statement.
-use Rattle.std.proofs.Common.{◌≡◌, ℕ, ◌+◌, ◌-◌, ◌<◌, ◌≤◌, Bool, true, false, cond, List, [], ◌∷◌, ◌++◌, Option, Some, None, length, fold, refl, ap, sym, ◌∙◌, subst, length-append, arith}
+use Rattle.std.proofs.Common.{◌≡◌, ℕ, ◌+◌, ◌-◌, ◌<◌, ◌≤◌, Bool, true, false, cond, List, [], ◌∷◌, ◌++◌, Option, Some, None, length, fold, refl, ap, sym, ◌∙◌, length-append, arith}
 use Rattle.std.specs.Prelude.{◌&&◌, OnSome}
 use Rattle.pf_lexer.specs.Reading.{weight}
 use Rattle.std.proofs.lemmas.Bool.{and_parts, both_ways}
 use Rattle.pf_lexer.specs.declared.cell.Cell.{Cell}
-use Rattle.pf_lexer.specs.declared.statement.Close.{Close}
 use Rattle.pf_lexer.specs.declared.statement.Close.TheVariants.{Line, Body, Long}
 use Rattle.pf_lexer.specs.declared.statement.Turn.TheVariants.{Closed, Seen}
 use Rattle.pf_lexer.specs.declared.token.TokenKind.{TokenKind}
 use Rattle.pf_lexer.specs.declared.token.TokenKind.TheVariants.{Word, Quoted, Sign, Newline}
 use Rattle.pf_lexer.specs.declared.token.Lexeme.{Lexeme}
 use Rattle.pf_lexer.specs.declared.token.Lexeme.TheVariants.{Token, Fault}
-use Rattle.pf_lexer.specs.Pieces.{Next, NoMore}
-use Rattle.pf_lexer.specs.Statements.{Ends, at_newline, skipped, at_body, too_long, taken, IsTaken, NoNewline, begins_anchor, depth_after, depth_of, is_byte, is_newline, is_newline_kind, is_sign, is_sign_kind, most_tokens}
-use Rattle.pf_lexer.specs.Taking.{Views, GoesOn, IsTurn, is_newline_view, view_weight}
+use Rattle.pf_lexer.specs.Pieces.{Next}
+use Rattle.pf_lexer.specs.Statements.{at_newline, skipped, at_body, too_long, taken, NoNewline, begins_anchor, depth_after, depth_of, is_byte, is_newline, is_newline_kind, is_sign, is_sign_kind, most_tokens}
+use Rattle.pf_lexer.specs.Taking.{Views, IsTurn, is_newline_view, view_weight}
 use Rattle.pf_lexer.proofs.Tokens.{next_one, no_next}
 
 -- no more list braces are open than there are tokens

@@ -1,5 +1,5 @@
 -- Statements that are handed out.
-use Rattle.std.proofs.Common.{◌≡◌, ℕ, ◌-◌, ◌<◌, Bool, true, false, List, [], ◌∷◌, ◌++◌, Option, Some, None, length, refl, ap, sym, ◌∙◌, subst, length-append, arith}
+use Rattle.std.proofs.Common.{◌≡◌, ℕ, ◌-◌, Bool, true, false, List, [], ◌∷◌, ◌++◌, Option, Some, None, length, refl, ap, sym, ◌∙◌, subst, length-append, arith}
 use Rattle.std.proofs.lemmas.Bool.{ne_eqb}
 use Rattle.pf_lexer.specs.declared.cell.Cell.{Cell}
 use Rattle.pf_lexer.specs.declared.statement.Close.{Close}

@@ -20,3 +20,6 @@ pub use lexemes::tokens_of;
 pub use macros::{Define, Macros};
 pub use token::{Cause, Fault, Lexeme, Token, TokenKind};
 pub use unit::{FileStatements, Statement, statements_of};
+
+#[cfg(test)]
+mod tests;

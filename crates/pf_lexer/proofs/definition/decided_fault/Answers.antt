@@ -1,10 +1,8 @@
 -- One more token.
-use Rattle.std.proofs.Common.{◌≡◌, ◌+◌, ◌++◌, ◌∷◌, [], Option, Some, List, take, get_or, sym, ap, ◌∙◌}
+use Rattle.std.proofs.Common.{◌≡◌, ◌+◌, ◌++◌, ◌∷◌, [], Some, take, sym, ap, ◌∙◌}
 use Rattle.std.proofs.lemmas.List.{take_more, take_all}
 use Rattle.std.specs.Prelude.{if◌then◌else◌}
 use Rattle.pf_lexer.specs.declared.token.Cause.TheVariants.{TooLarge}
-use Rattle.pf_lexer.specs.declared.token.Fault.{Fault}
-use Rattle.pf_lexer.specs.declared.token.Lexeme.{Lexeme}
 use Rattle.pf_lexer.specs.Faults.{decided, definition_faults, definition_of, length_fault, token_faults, too_large_at, or_earlier}
 use Rattle.pf_lexer.proofs.FaultLemmas.{decided_fault_push, decided_token_push, decided_push}
 use Rattle.pf_lexer.proofs.definition.decided_fault.Goals as goal

@@ -1,5 +1,5 @@
 -- The sum of the lengths, each with one more, says how long the value is.
-use Rattle.std.proofs.Common.{length, ap, sym, ◌∙◌, arith}
+use Rattle.std.proofs.Common.{length, ap, arith}
 use Rattle.std.proofs.lemmas.List.{drop_all}
 use Rattle.pf_lexer.proofs.ValueTexts.{total, total_none, total_drop, exceeds_true, exceeds_false}
 use Rattle.pf_lexer.proofs.definition.exceeds.Goals as goal

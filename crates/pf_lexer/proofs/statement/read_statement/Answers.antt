@@ -1,5 +1,5 @@
 -- The statement begins with no token, and ends with the file where none is in view.
-use Rattle.std.proofs.Common.{◌≡◌, ◌≤◌, List, [], length, sym, ap, ◌∙◌, subst, arith}
+use Rattle.std.proofs.Common.{List, sym, subst, arith}
 use Rattle.pf_lexer.specs.declared.cell.Cell.{Cell}
 use Rattle.pf_lexer.specs.declared.statement.Close.TheVariants.{End}
 use Rattle.pf_lexer.specs.Macros.{value_of}

@@ -1,10 +1,9 @@
 -- A `{` of an anchor statement.
-use Rattle.std.proofs.Common.{◌≡◌, ◌<◌, List, length, sym, ap, ◌∙◌, subst, arith}
+use Rattle.std.proofs.Common.{List, sym, ◌∙◌, subst, arith}
 use Rattle.pf_lexer.specs.declared.statement.Close.TheVariants.{Long}
 use Rattle.pf_lexer.specs.declared.statement.Turn.TheVariants.{Closed, Seen}
 use Rattle.pf_lexer.specs.declared.token.Lexeme.{Lexeme}
 use Rattle.pf_lexer.specs.Macros.{value_of}
-use Rattle.pf_lexer.specs.Statements.{most_tokens}
 use Rattle.pf_lexer.specs.Taking.{IsTurn}
 use Rattle.pf_lexer.proofs.TakingLemmas.{turn_body, brace_long, brace_taken, sign_no_newline, one_over, not_over}
 use Rattle.pf_lexer.proofs.statement.take_brace.Goals as goal

@@ -1,7 +1,5 @@
 -- A statement has a fault, defines a macro, is handed out, is nothing, or is the end.
-use Rattle.std.proofs.Common.{◌≡◌, ◌≤◌, ◌<◌, List, Option, Some, None, sym, ap, ◌∙◌, subst, arith}
-use Rattle.pf_lexer.specs.declared.cell.Cell.{Cell}
-use Rattle.pf_lexer.specs.declared.token.Fault.{Fault}
+use Rattle.std.proofs.Common.{List, sym, ap, ◌∙◌, subst, arith}
 use Rattle.pf_lexer.specs.declared.token.Lexeme.{Lexeme}
 use Rattle.pf_lexer.specs.Faults.{Parts, decided, definition_of, faults_of}
 use Rattle.pf_lexer.specs.Macros.{Table}

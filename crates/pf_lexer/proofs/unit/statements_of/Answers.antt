@@ -1,10 +1,8 @@
 -- The statements so far with those of the rest are all, and a text has one list of statements.
-use Rattle.std.proofs.Common.{◌++◌, ◌∷◌, [], List, Option, Some, None, sym, ap, ◌∙◌, subst, append-nil, append_assoc}
-use Rattle.pf_lexer.specs.declared.token.Fault.{Fault}
+use Rattle.std.proofs.Common.{◌++◌, ◌∷◌, [], List, Some, None, sym, ap, ◌∙◌, subst, append-nil, append_assoc}
 use Rattle.pf_lexer.specs.declared.unit.Statement.{Statement}
-use Rattle.pf_lexer.specs.declared.unit.Outcome.{Outcome}
 use Rattle.pf_lexer.specs.Cells.{cells_from}
-use Rattle.pf_lexer.specs.Units.{Handed, Leads, outcome_rest}
+use Rattle.pf_lexer.specs.Units.{Handed}
 use Rattle.pf_lexer.proofs.OneOutcome.{handed_one}
 use Rattle.pf_lexer.proofs.unit.statements_of.Goals as goal
 
