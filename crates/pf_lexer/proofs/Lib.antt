@@ -1,9 +1,15 @@
 pub mod CellLemmas
 pub mod DollarLemmas
+pub mod FaultLemmas
 pub mod MapLemmas
 pub mod Runs
 pub mod QuotedLemmas
+pub mod UnitLemmas
 pub mod ValueLemmas
+pub mod ValueTexts
 pub mod Weights
+pub mod OneEnd
+pub mod OneOutcome
 pub mod PieceSteps
+pub mod TakingLemmas
 pub mod Tokens

@@ -2,6 +2,7 @@
 use Rattle.std.proofs.Common.{◌≡◌, ℕ, false, cond, List, [], ◌∷◌, length, Some, None, refl, ap, sym, ◌∙◌}
 use Rattle.std.specs.Prelude.{nat_le, ◌&&◌}
 use Rattle.std.proofs.lemmas.Bool.{and_from, and_parts, le-leb, leb-true, false_from_ne_true}
+use Rattle.std.specs.Option.{option_or}
 use Rattle.std.specs.Ordering.{nat_cmp, eq_by_cmp}
 use Rattle.std.specs.Cmp.{eq_by_cmp_equiv}
 use Rattle.std.specs.Cmp.Lexicographic.{slice_cmp, nat_list_cmp_total}
@@ -9,7 +10,7 @@ use Rattle.std.specs.FinMap.{get, insert, from_entries, find, same_map, get-inse
 use Rattle.std.specs.BTreeMap.{is_at}
 use Rattle.std.specs.Map.{lookup}
 use Rattle.pf_base.specs.Name.{IsNameText}
-use Rattle.pf_lexer.specs.Macros.{Values, value_of}
+use Rattle.pf_lexer.specs.Macros.{Table, value_of}
 
 find_is : (entries : List (List ℕ × List ℕ)) (name : List ℕ) → find (slice_cmp nat_cmp) name entries ≡ lookup (is_at (slice_cmp nat_cmp name)) entries
 find_is [] name = refl
@@ -29,13 +30,13 @@ one_inserted old new name value differs =
     ∙ ap (λ b. cond b (Some value) (lookup (is_at (slice_cmp nat_cmp other)) old)) ((eq_by_cmp_equiv nat_list_cmp_total).symm name other)
     ∙ sym (get-insert nat_list_cmp_total (from_entries old) name value other ∙ ap (cond (eq_by_cmp (slice_cmp nat_cmp) other name) (Some value)) (get_is old other)))
 
-pub value_of_named : (macros : Values) (name : List ℕ) → IsNameText name → value_of macros name ≡ get macros name
+pub value_of_named : (macros : Table) (name : List ℕ) → IsNameText name → value_of macros name ≡ option_or (get macros.given name) (get macros.defined name)
 unfolding value_of
 value_of_named macros name is =
     let test = and_from _ _ (le-leb 1 (length name) is.some) (le-leb (length name) 63 is.few) in
     rw test refl
 
-pub value_of_none : (macros : Values) (name : List ℕ) → (IsNameText name → ⊥) → value_of macros name ≡ None
+pub value_of_none : (macros : Table) (name : List ℕ) → (IsNameText name → ⊥) → value_of macros name ≡ None
 unfolding value_of
 value_of_none macros name none =
     let test : (nat_le 1 (length name) && nat_le (length name) 63) ≡ false =

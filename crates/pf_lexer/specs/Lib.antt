@@ -1,5 +1,10 @@
 pub mod Bytes
 pub mod Cells
+pub mod Closes
+pub mod Faults
 pub mod Macros
 pub mod Pieces
 pub mod Reading
+pub mod Statements
+pub mod Taking
+pub mod Units

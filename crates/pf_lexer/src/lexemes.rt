@@ -32,6 +32,3 @@ pub fn tokens_of(
     }
     Ok(found)
 }
-
-#[cfg(test)]
-mod tests;

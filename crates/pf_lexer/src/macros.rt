@@ -1,10 +1,10 @@
 //! Macros and their values, pf.conf(5), MACROS.
-ghost use Rattle.std.specs.Prelude.{◌≡◌, IfOk, OnErr};
+ghost use Rattle.std.specs.Prelude.{◌≡◌, IfOk, OnOk, OnErr};
 ghost use Rattle.std.specs.Cmp.Lexicographic.{slice_cmp};
 ghost use Rattle.std.specs.FinMap as map;
 ghost use Rattle.std.specs.Ordering.{nat_cmp};
 ghost use Rattle.std.specs.Option.{option_copied};
-ghost use Rattle.pf_lexer.specs.Macros.{value_of, values_of};
+ghost use Rattle.pf_lexer.specs.Macros.{value_of, values_of, with_definition};
 
 use pf_base::{List, Name, NoMemory, Text};
 use std::alloc::Global;
@@ -18,24 +18,23 @@ pub struct Define {
     pub value: Text,
 }
 
-/// Macros with their values. Clauses see the value of each name.
+/// Macros with their values: those given from outside, and those that the definitions of a file gave so far. Clauses
+/// see the two maps.
 #[derive(Drop)]
 pub struct Macros {
-    values: BTreeMap<Name, Text>,
+    given: BTreeMap<Name, Text>,
+    defined: BTreeMap<Name, Text>,
 }
 
 impl Model for Macros {
-    ghost use Rattle.std.specs.Prelude.{List, ℕ};
-    ghost use Rattle.std.specs.Ordering.{nat_cmp};
-    ghost use Rattle.std.specs.Cmp.Lexicographic.{slice_cmp};
-    ghost use Rattle.std.specs.Coded.{coded_list, coded_ℕ};
+    ghost use Rattle.pf_lexer.specs.Macros.{Table, table_code};
     ghost use Rattle.std.specs.FinMap as map;
 
-    ghost Value = { map.FinMap (slice_cmp nat_cmp) (List ℕ) };
+    ghost Value = { Table };
 
-    ghost coded = { map.code (coded_list coded_ℕ) (coded_list coded_ℕ) };
+    ghost coded = { table_code };
 
-    ghost view = { λ a. map.from_entries a.values.entries };
+    ghost view = { λ a. record { given = map.from_entries a.given.entries; defined = map.from_entries a.defined.entries } };
 }
 
 /// Gives a name this value.
@@ -53,16 +52,25 @@ fn keep_value(
     Ok(())
 }
 
+/// The value of a name among some.
+fn look_up<'a>(values: &'a BTreeMap<Name, Text>, name: &Name) -> Option<&'a [u8]>
+    ensures { option_copied result ≡ map.get (map.from_entries {R = slice_cmp nat_cmp} values.now.entries) name.now }
+{
+    let value = values.get(name)?;
+    Some(value.items())
+}
+
 impl Macros {
-    /// The macros of these definitions. Where two have one name, the later counts.
+    /// The macros of these definitions, which no definition of a file changes. Where two have one name, the later counts.
     pub fn new(alloc: Global, defines: &[Define]) -> Result<Macros, NoMemory>
         ensures { IfOk result (λ macros. macros ≡ values_of defines.now) }
     {
-        let mut values = BTreeMap::new(alloc);
+        let mut given = BTreeMap::new(alloc);
         for define in defines {
-            keep_value(alloc, &mut values, define.name, define.value.items())?;
+            keep_value(alloc, &mut given, define.name, define.value.items())?;
         }
-        Ok(Macros { values })
+        let defined = BTreeMap::new(alloc);
+        Ok(Macros { given, defined })
     }
 
     /// What a name stands for.
@@ -70,7 +78,18 @@ impl Macros {
         ensures { option_copied result ≡ value_of self.now name.now }
     {
         let name = Name::new(name)?;
-        let value = self.values.get(&name)?;
-        Some(value.items())
+        match look_up(&self.given, &name) {
+            Some(value) => Some(value),
+            None => look_up(&self.defined, &name),
+        }
+    }
+
+    /// Adds a definition of a file. It has no effect on a name that was given from outside.
+    pub fn define(&mut self, alloc: Global, name: Name, value: &[u8]) -> Result<(), NoMemory>
+        ensures ok { OnOk result (self.new ≡ with_definition self.old name value.now) }
+        ensures err { OnErr result (self.new ≡ self.old) }
+    {
+        keep_value(alloc, &mut self.defined, name, value)?;
+        Ok(())
     }
 }

@@ -23,7 +23,7 @@ pub struct Token {
     pub place: Place,
 }
 
-/// Why no token can be read.
+/// A lexical fault.
 #[derive(Clone, Copy, Debug)]
 pub enum Cause {
     /// A byte outside comments that is no tab, newline or carriage return and not from 32 to 126.
@@ -32,9 +32,11 @@ pub enum Cause {
     Unterminated,
     /// A macro that has no value. A longer name is cut to 63 bytes.
     MacroUndefined(Name),
-    /// A `$` that no name follows.
+    /// A `$` that no name follows, or a definition of a name that no macro may have.
     MacroName,
-    /// A macro whose value has a `$`.
+    /// A value of more than 8,192 bytes, or a statement of more than 16,384 tokens.
+    TooLarge,
+    /// A macro whose value has a `$`, or a definition outside its form.
     Syntax,
 }
 

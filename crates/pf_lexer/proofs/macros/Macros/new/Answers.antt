@@ -8,14 +8,14 @@ use Rattle.pf_lexer.specs.Macros.{with_defines}
 use Rattle.pf_lexer.proofs.macros.Macros.new.Goals as goal
 
 pub loop-define-init : goal.loop-define-init
-loop-define-init c = ap (λ entries. with_defines (from_entries {R = slice_cmp nat_cmp} entries) c.args.defines.now) c.new-values.ensures.empty
+loop-define-init c = ap (λ entries. with_defines (from_entries {R = slice_cmp nat_cmp} entries) c.args.defines.now) c.new-given.ensures.empty
 
 pub loop-define-preserved : goal.loop-define-preserved
 loop-define-preserved c =
     let defines = c.args.defines.now in
     let i = c.loop-define.define-index in
     let define = c.define-item.result in
-    let before = from_entries {R = slice_cmp nat_cmp} c.loop-define.values.entries in
+    let before = from_entries {R = slice_cmp nat_cmp} c.loop-define.given.entries in
     ap (λ m. with_defines m (drop (i + 1) defines)) c.in_ok-keep_value.ensures.kept
     ∙ ap (λ value. with_defines (insert before define.name value) (drop (i + 1) defines)) c.items.ensures
     ∙ ap (λ d. with_defines before (d ∷ drop (i + 1) defines)) c.define-item.is
@@ -23,6 +23,7 @@ loop-define-preserved c =
     ∙ c.loop-define.invariant
 
 pub returns : goal.returns
-returns c =
-    ap (with_defines (from_entries {R = slice_cmp nat_cmp} c.loop-define.values.entries)) (sym (drop_all c.loop-define.define-index c.args.defines.now c.loop-define-test.false))
-    ∙ c.loop-define.invariant
+returns c = λ i. record {
+  given = (ap (with_defines (from_entries {R = slice_cmp nat_cmp} c.loop-define.given.entries)) (sym (drop_all c.loop-define.define-index c.args.defines.now c.loop-define-test.false)) ∙ c.loop-define.invariant) i;
+  defined = ap (from_entries {R = slice_cmp nat_cmp}) c.new-defined.ensures.empty i;
+}

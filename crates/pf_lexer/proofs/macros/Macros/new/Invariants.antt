@@ -1,10 +1,10 @@
 use Rattle.std.proofs.Common.{◌≡◌, drop}
 use Rattle.std.specs.Ordering.{nat_cmp}
 use Rattle.std.specs.Cmp.Lexicographic.{slice_cmp}
-use Rattle.std.specs.FinMap.{from_entries}
-use Rattle.pf_lexer.specs.Macros.{with_defines, values_of}
+use Rattle.std.specs.FinMap.{from_entries, empty}
+use Rattle.pf_lexer.specs.Macros.{with_defines}
 use Rattle.pf_lexer.proofs.macros.Macros.new.Given as goal
 
 abbrev pub invariant-loop-define : goal.invariant-loop-define
 invariant-loop-define l =
-    with_defines (from_entries {R = slice_cmp nat_cmp} l.values.entries) (drop l.define-index l.defines) ≡ values_of l.defines
+    with_defines (from_entries {R = slice_cmp nat_cmp} l.given.entries) (drop l.define-index l.defines) ≡ with_defines empty l.defines
