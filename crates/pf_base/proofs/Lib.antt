@@ -1,4 +1,7 @@
 pub mod Cuts
 pub mod Decimals
 pub mod Lines
+pub mod PathGrammar
+pub mod PathReads
+pub mod Paths
 pub mod Words

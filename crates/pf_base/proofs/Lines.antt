@@ -1,6 +1,6 @@
 -- Lines of a text, one after another.
-use Rattle.std.proofs.Common.{◌≡◌, ℕ, ◌+◌, ◌<◌, Bool, true, false, not, ◌==◌, List, [], ◌∷◌, ◌++◌, length, take, drop, refl, sym, ap, ◌∙◌, subst, arith, append_assoc}
-use Rattle.std.specs.List.{slice_split, list_all}
+use Rattle.std.proofs.Common.{◌≡◌, ℕ, ◌+◌, Bool, true, List, [], ◌∷◌, ◌++◌, take, drop, refl, sym, ap, ◌∙◌, subst, append_assoc}
+use Rattle.std.specs.List.{slice_split}
 use Rattle.std.proofs.lemmas.Bool.{eqb-true}
 use Rattle.pf_base.specs.Text.{is_newline, is_space, but_last, last_part, whole_lines, unfinished, fields_of, IsOneLine, CutsLine, EndsNoLine, LinesGoOn}
 use Rattle.pf_base.proofs.Cuts.{IsFirst, NonePasses, split_at_first, split_none, none_append, split_append, last_is_one, first_part}

@@ -1,10 +1,9 @@
 -- The words of a text, from its front.
-use Rattle.std.proofs.Common.{◌≡◌, ℕ, zero, suc, ◌+◌, ◌<◌, ◌≤◌, Bool, true, false, not, ◌&&◌, List, [], ◌∷◌, ◌++◌, length, take, drop, get_or, refl, sym, ap, ◌∙◌, subst, arith, add-one, drop-cons}
-use Rattle.std.specs.List.{slice_split, list_all, filter}
+use Rattle.std.proofs.Common.{◌≡◌, ℕ, zero, suc, ◌+◌, ◌<◌, Bool, true, false, not, List, [], ◌∷◌, ◌++◌, length, take, drop, get_or, refl, sym, ap, ◌∙◌, add-one, drop-cons}
+use Rattle.std.specs.List.{list_all, filter}
 use Rattle.std.specs.Cmp.{first_so, second_so}
-use Rattle.std.proofs.lemmas.List.{take-append-drop}
 use Rattle.pf_base.specs.Text.{is_blank, is_nothing, words_of}
-use Rattle.pf_base.proofs.Cuts.{IsFirst, NonePasses, not_true, split_at_first, split_none}
+use Rattle.pf_base.proofs.Cuts.{IsFirst, NonePasses, split_at_first, split_none}
 
 -- a byte that is no word's
 abbrev is_word_byte : ℕ → Bool

@@ -36,7 +36,7 @@ whole_lines text = but_last (slice_split is_newline text)
 unfoldable pub unfinished : List ℕ → List ℕ
 unfinished text = last_part (slice_split is_newline text)
 
--- a last piece without a newline is a line where it isn't empty
+-- bytes behind the last newline make one more line; where there are none, there is no line
 abbrev pub line_of_rest : List ℕ → List (List ℕ)
 line_of_rest [] = []
 line_of_rest (byte ∷ bytes) = (byte ∷ bytes) ∷ []

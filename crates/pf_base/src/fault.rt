@@ -3,9 +3,9 @@
 /// A line of a file of a load.
 #[derive(Clone, Copy, Debug, PartialEq, Eq)]
 pub struct Place {
-    /// The file's number in the order in which the load first read its files, from 0.
+    /// Which file: the load's files are numbered from 0 as it first meets them.
     pub file: u64,
-    /// The line, from 1, or 0 for the whole file.
+    /// Which line: 1 is the first, and 0 stands for the file as a whole.
     pub line: u32,
 }
 

@@ -8,6 +8,9 @@ pub mod kind;
 pub mod list;
 pub mod memory;
 pub mod name;
+pub mod path;
+pub mod path_fault;
+mod path_text;
 pub mod steps;
 pub mod text;
 
@@ -16,4 +19,9 @@ pub use kind::{Family, Level};
 pub use list::{List, Text};
 pub use memory::NoMemory;
 pub use name::Name;
+pub use path::Path;
+pub use path_fault::PathFault;
 pub use steps::{Ledger, Steps};
+
+#[cfg(test)]
+mod path_tests;

@@ -42,7 +42,7 @@ impl Name {
     /// The longest name.
     pub const MOST: usize = 63;
 
-    /// The name with these bytes, or None exactly where their number isn't 1 to 63.
+    /// A name of these bytes; None where there is no byte, or where there are more than 63.
     pub fn new(bytes: &[u8]) -> Option<Name>
         ensures some { IsSome result ↔ IsNameText bytes.now }
         ensures same { IfSome result (λ name. name ≡ bytes.now) }

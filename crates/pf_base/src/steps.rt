@@ -7,8 +7,7 @@ use std::marker::{Model, PhantomData};
 /// The ledger of the counters that [`Steps::start`] makes. It has no values.
 pub enum Ledger {}
 
-/// How many tests were made, for any ledger `L`. A clause reads the number as `count`, which has no
-/// greatest value. It can't be copied, and only [`Steps::start`] makes one.
+/// Counts tests, under any ledger `L`. A clause reads the number as `count`, and no test is one too many. It can't be copied, and only [`Steps::start`] makes one.
 #[derive(Drop)]
 pub struct Steps<L> {
     of: PhantomData<L>,

@@ -1,3 +1,4 @@
 pub mod Decisions
+pub mod Examples
 pub mod Walks
 pub mod Words

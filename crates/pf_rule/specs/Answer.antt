@@ -12,5 +12,5 @@ abbrev pub answer_of_walk : Walk → Answer
 answer_of_walk walk = record { decision = walk.last }
 
 -- what the rules as written answer: the walk through them from its opening
-abbrev pub answer_of : List Rule → Packet → Answer
+unfoldable pub answer_of : List Rule → Packet → Answer
 answer_of rules packet = answer_of_walk (walked rules (opening_walk packet))

@@ -22,5 +22,5 @@ abbrev pub decision_text : Action → StateKind → List ℕ
 decision_text Pass state = codes "pass " ++ state_text state
 decision_text (Block kind) state = codes "block " ++ kind_text kind
 
-abbrev pub answer_text : Answer → List ℕ
+unfoldable pub answer_text : Answer → List ℕ
 answer_text answer = decision_text answer.decision.action answer.decision.state

@@ -42,7 +42,7 @@ packet_from (Some direction) (Some iface) None = Err (record { 0 = field.Protoco
 packet_from (Some direction) (Some iface) (Some proto) = Ok (record { direction = direction; iface = iface; proto = proto })
 
 -- what a record says; the words behind the third aren't read
-abbrev pub packet_of : List ℕ → Result Packet PacketFault
+unfoldable pub packet_of : List ℕ → Result Packet PacketFault
 packet_of text =
     packet_from (option_and_then direction_named (slice_get (fields_of text) 0))
     (option_and_then interface_named (slice_get (fields_of text) 1))

@@ -15,6 +15,7 @@ pub fn put_answer(out: &mut Vec<u8>, answer: &Answer) -> Result<(), NoMemory>
     Ok(())
 }
 
+#[tactic(auto, unfolding(crate::specs::AnswerText::answer_text))]
 fn words_of(answer: &Answer) -> &'static [u8]
     ensures { result.now ≡ answer_text answer.now }
 {

@@ -28,6 +28,7 @@ const MOST: u32 = 255;
 /// `_ - . : + @`, and the protocol, a decimal number to 255, with single spaces between them.
 /// The fault names the first of the three that is missing or outside its form. What stands behind
 /// the third isn't read.
+#[tactic(auto, unfolding(crate::specs::Record::packet_of))]
 pub fn read_packet(text: &[u8]) -> Result<Packet, PacketFault>
     ensures { result ≡ packet_of text.now }
 {

@@ -4,7 +4,9 @@ use crate::packet::Direction;
 /// A filter rule of pf.conf(5).
 #[derive(Clone, Copy, Debug, PartialEq, Eq)]
 pub struct Rule {
+    /// The packets that it matches.
     pub criteria: Criteria,
+    /// What it does with them.
     pub effect: Effect,
 }
 
@@ -20,6 +22,7 @@ pub struct Criteria {
 /// What a rule does with a packet that it matches.
 #[derive(Clone, Copy, Debug, PartialEq, Eq)]
 pub struct Effect {
+    /// Whether the packet passes.
     pub action: Action,
     /// `quick`: no later rule is evaluated.
     pub quick: bool,
@@ -30,7 +33,9 @@ pub struct Effect {
 /// What becomes of a packet (pf.conf(5), "block" and "pass").
 #[derive(Clone, Copy, Debug, PartialEq, Eq)]
 pub enum Action {
+    /// It passes.
     Pass,
+    /// It is blocked.
     Block(BlockKind),
 }
 

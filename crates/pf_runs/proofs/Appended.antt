@@ -1,6 +1,6 @@
 -- Lists of events, one after another.
-use Rattle.std.proofs.Common.{◌≡◌, ℕ, ◌+◌, ◌≤◌, Bool, true, false, ◌||◌, List, [], ◌∷◌, ◌++◌, length, map, Option, Some, None, refl, sym, ap, ◌∙◌, append_assoc}
-use Rattle.pf_runs.specs.Runs.{Disk, Step, Stepped, Event, stepped, lines_in, HaveNoOutage, reply_text, machine_after, output, any_refused, unread}
+use Rattle.std.proofs.Common.{◌≡◌, Bool, true, false, ◌||◌, List, [], ◌∷◌, ◌++◌, refl, sym, ap, ◌∙◌, append_assoc}
+use Rattle.pf_runs.specs.Runs.{Disk, Step, Event, stepped, lines_in, HaveNoOutage, reply_text, machine_after, output, any_refused, unread}
 
 pub machine_after-append : {M : Type 0} (step : Step M) (disk : Disk) (machine : M) (xs ys : List Event) → machine_after step disk machine (xs ++ ys) ≡ machine_after step disk (machine_after step disk machine xs) ys
 machine_after-append step disk machine [] ys = refl

@@ -1,10 +1,10 @@
 -- A run goes on.
-use Rattle.std.proofs.Common.{◌≡◌, ℕ, ◌+◌, ◌-◌, ◌^◌, ◌≤◌, min, Bool, true, false, ◌||◌, List, [], ◌∷◌, ◌++◌, length, map, Option, Some, None, refl, sym, ap, ◌∙◌, subst, append_assoc, append-nil, arith, length-append}
-use Rattle.std.specs.Io.KnownBytes.{Appends, Keeps}
+use Rattle.std.proofs.Common.{◌≡◌, ℕ, ◌+◌, Bool, true, false, ◌||◌, List, [], ◌∷◌, ◌++◌, length, Option, Some, None, refl, sym, ap, ◌∙◌, append_assoc, append-nil, arith, length-append}
+use Rattle.std.specs.Io.KnownBytes.{Appends}
 use Rattle.std.specs.Option.{option_map}
 use Rattle.pf_source.specs.Causes.{RoseBy}
 use Rattle.pf_source.specs.Files.{StaysHeld}
-use Rattle.pf_runs.specs.Runs.{Disk, Step, Stepped, Event, World, AddsNames, Goes, Executes, Stops, StopsAt, Answers, Cause, Write_failed, Out_of_memory, stepped, lines_in, HaveNoOutage, reply_text, machine_after, output, any_refused, unread, without}
+use Rattle.pf_runs.specs.Runs.{Disk, Step, Event, World, AddsNames, Goes, Executes, Stops, StopsAt, Answers, Cause, Write_failed, Out_of_memory, lines_in, reply_text, output, any_refused, unread, without}
 use Rattle.pf_runs.proofs.Appended.{machine_after-append, output-append, unread-append, any_refused-append, lines_in-append, HaveNoOutage-append, or_assoc}
 
 pub Appends-nothing : (written : Option (List ℕ)) → Appends written written []

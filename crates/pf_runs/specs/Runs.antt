@@ -5,7 +5,7 @@ use Rattle.std.specs.Cmp.Lexicographic.{pointwise}
 use Rattle.std.specs.Io.KnownBytes.{Appends, Keeps}
 use Rattle.pf_source.specs.Causes.{RoseBy}
 use Rattle.pf_source.specs.Files.{StaysHeld}
-use Rattle.pf_source.specs.Told.{FilesTold, SinkTold, Told, file_of}
+use Rattle.pf_source.specs.Told.{FilesTold, SinkTold}
 
 -- What files hold: the bytes under each name, or None where a read fails
 abbrev pub Disk : Type 0
@@ -79,7 +79,7 @@ pub record World (M : Type 0) : Type 0 where
 abbrev pub AddsNames : List (List ℕ) → Option (List (List ℕ)) → Option (List (List ℕ)) → Type 0
 AddsNames added old new = new ≡ option_map (λ names. names ++ added) old
 
--- From before to after, these events were executed, each to its end, and nothing else was done.
+-- From before to after, these events were executed, each to its end, and nothing else was written.
 pub record Goes {M : Type 0} (step : Step M) (disk : Disk) (before : World M) (events : List Event) (after : World M) : Type 0 where
   pub machine : after.machine ≡ machine_after step disk before.machine events
   pub refused : after.refused ≡ (before.refused || any_refused step disk before.machine events)

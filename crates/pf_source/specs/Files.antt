@@ -1,5 +1,5 @@
 -- What one read of a file does.
-use Rattle.std.specs.Prelude.{◌≡◌, ℕ, ◌<◌, Bool, true, List, [], ◌∷◌, ◌++◌, length, Option, Some, None, Result, Ok, Err, option_map}
+use Rattle.std.specs.Prelude.{◌≡◌, ℕ, ◌<◌, true, List, [], ◌∷◌, ◌++◌, length, Option, Some, None, Result, Ok, Err, option_map}
 use Rattle.pf_source.specs.declared.fault.FilesFault.{FilesFault}
 use Rattle.pf_source.specs.declared.fault.FilesFault.TheVariants as faults
 use Rattle.pf_source.specs.Told.{FilesTold, Told, file_of}

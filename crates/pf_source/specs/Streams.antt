@@ -1,5 +1,5 @@
 -- What one read of the input and one write of the output do.
-use Rattle.std.specs.Prelude.{◌≡◌, ℕ, ◌≤◌, List, length, take, Option, Result, Ok, Err}
+use Rattle.std.specs.Prelude.{ℕ, ◌≤◌, List, length, take, Option, Result, Ok, Err}
 use Rattle.std.specs.Io.KnownBytes.{Appends, Keeps}
 use Rattle.pf_source.specs.declared.fault.Failed.{Failed}
 use Rattle.pf_source.specs.declared.fault.SinkFault.{SinkFault}

@@ -16,6 +16,7 @@ pub enum FilesFault {
     Failed,
     /// It is longer than the limit: at least `seen` bytes.
     TooLarge { seen: u64 },
+    /// No memory was found for it.
     NoMemory,
 }
 

@@ -11,7 +11,9 @@ use std::alloc::Global;
 /// A file and what it holds.
 #[derive(Debug, Drop)]
 pub struct HeldFile {
+    /// Its name, as a read asks for it.
     pub name: Text,
+    /// All that it holds.
     pub bytes: Text,
 }
 

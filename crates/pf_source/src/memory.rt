@@ -1,5 +1,6 @@
 //! Objects in memory, of which chosen calls fail.
-ghost use Rattle.std.specs.Prelude.{◌≡◌, ◌≤◌, [], ◌∷◌, ◌++◌, false, Some, drop, take, min, length, option_copied};
+ghost use Rattle.std.specs.Prelude.{◌≡◌, ◌≤◌, [], ◌∷◌, ◌++◌, false, Some, drop, take, min, length, find, option_copied, option_map, ◌==◌};
+ghost use Rattle.std.specs.List.{list_any};
 ghost use Rattle.pf_source.specs.Told.{file_among, is_none_at_all};
 ghost use Rattle.pf_source.specs.Memory.{CopiesWithin, CountsFailure};
 
@@ -12,7 +13,8 @@ use std::alloc::{AllocError, Global};
 
 /// Is the call with this number, from 1, one of those that are to fail?
 fn is_failing(fail: &[u64], call: u64) -> bool
-    ensures { fail.now ≡ [] → result ≡ false }
+    ensures value { result ≡ list_any (λ number. number == call) fail.now }
+    ensures none { fail.now ≡ [] → result ≡ false }
 {
     fail.contains(&call)
 }
@@ -53,7 +55,7 @@ pub struct MemoryFiles {
 
 impl MemoryFiles {
     /// Files with this content, of which the reads with these numbers, from 1, are to fail.
-    /// Of two files of one name the first counts.
+    /// A later file of a name that stands before is never read.
     pub fn new(alloc: Global, content: Vec<HeldFile>, fail: Vec<u64>) -> MemoryFiles
         ensures { ⟦<MemoryFiles as Files>⟧.tells result ≡ record { held = Some (record { files = content.items; sure = false }); steady = is_none_at_all fail.items; faults = 0; failed = Some [] } }
     {
@@ -157,7 +159,9 @@ pub(crate) fn copy_front(from: &[u8], buf: &mut [u8]) -> usize
 /// The number of a write that is to fail, from 1, and how many bytes it still takes.
 #[derive(Clone, Copy, Debug, PartialEq, Eq)]
 pub struct FailedWrite {
+    /// Which write, from 1.
     pub call: u64,
+    /// How many bytes of its piece it still takes, at most the piece.
     pub taken: u64,
 }
 
@@ -191,12 +195,15 @@ impl MemorySink {
     }
 
     // How many bytes the write of this number takes, where it is to fail.
-    fn cut_of(&self, call: u64) -> Option<u64> {
-        self.fail
-            .items()
-            .iter()
-            .find(|write| write.call == call)
-            .map(|write| write.taken)
+    fn cut_of(&self, call: u64) -> Option<u64>
+        ensures { result ≡ option_map (λ write. write.taken) (find (λ write. write.call == call) self.now.fail) }
+    {
+        for write in self.fail.items() {
+            if write.call == call {
+                return Some(write.taken);
+            }
+        }
+        None
     }
 }
 

@@ -16,7 +16,7 @@ pub struct SureFiles {
 }
 
 impl SureFiles {
-    /// Files with this content. Of two files of one name the first counts.
+    /// Files with this content. A later file of a name that stands before is never read.
     pub fn new(content: Vec<HeldFile>) -> SureFiles
         ensures { ⟦<SureFiles as Files>⟧.tells result ≡ record { held = Some (record { files = content.items; sure = true }); steady = true; faults = 0; failed = Some [] } }
     {

@@ -1,9 +1,9 @@
-use Rattle.std.proofs.Common.{◌≡◌, ◌≤◌, ◌<◌, ◌+◌, ◌*◌, ◌-◌, ℕ, Bool, true, false, ◌==◌, List, [], ◌∷◌, length, drop, get_or, Option, None, sym, ap, ◌∙◌, subst, refl, arith, rules, drop-cons, add-one}
+use Rattle.std.proofs.Common.{◌≡◌, ◌<◌, ◌+◌, ◌-◌, ℕ, true, false, ◌==◌, List, [], ◌∷◌, length, drop, get_or, None, sym, ap, ◌∙◌, refl, arith, rules, drop-cons, add-one}
 use Rattle.std.proofs.lemmas.Bool.{eqb-true}
 use Rattle.std.proofs.lemmas.List.{drop_all}
 use Rattle.pf_base.specs.Decimal.{decimal_of}
 use Rattle.pf_base.specs.Text.{is_nothing}
-use Rattle.pf_base.proofs.Decimals.{ReadsTo, reads_digit, no_digit, above_most, read_whole}
+use Rattle.pf_base.proofs.Decimals.{reads_digit, no_digit, above_most, read_whole}
 use Rattle.pf_base.proofs.text.decimal.Goals as goal
 
 nothing_is_none : (most : ℕ) (text : List ℕ) → (length text == 0) ≡ true → decimal_of most text ≡ None

@@ -1,4 +1,4 @@
-use Rattle.std.proofs.Common.{◌≡◌, ℕ, ◌+◌, ◌-◌, List, length, take, drop, get_or, sym, subst}
+use Rattle.std.proofs.Common.{get_or, sym}
 use Rattle.std.proofs.lemmas.List.{take_rest}
 use Rattle.pf_base.specs.Text.{is_space}
 use Rattle.pf_base.proofs.Cuts.{first_of_position, none_of_position}

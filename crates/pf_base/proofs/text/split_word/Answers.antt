@@ -1,5 +1,5 @@
-use Rattle.std.proofs.Common.{◌≡◌, ◌≤◌, ℕ, ◌+◌, ◌-◌, ◌<◌, Bool, true, false, not, List, [], ◌∷◌, ◌++◌, length, take, drop, get_or, sym, ap, ◌∙◌, subst, arith, drop-cons, add-one, refl}
-use Rattle.std.proofs.lemmas.List.{take_rest, take-append-drop}
+use Rattle.std.proofs.Common.{◌≡◌, ℕ, ◌+◌, ◌-◌, ◌<◌, not, List, [], ◌∷◌, length, take, drop, get_or, sym, ap, ◌∙◌, subst, drop-cons, add-one}
+use Rattle.std.proofs.lemmas.List.{take_rest}
 use Rattle.pf_base.specs.Text.{is_blank, words_of, CutsWord}
 use Rattle.pf_base.proofs.Cuts.{IsFirst, NonePasses, not_true, first_of_position, none_of_position}
 use Rattle.pf_base.proofs.Words.{no_words, skip_blanks, one_word, first_word}

@@ -1,0 +1,10 @@
+pub mod Cover
+pub mod Network
+pub mod Values
+pub mod Texts
+pub mod Short
+pub mod Prefixes
+pub mod Digits
+pub mod Groups
+pub mod Printed
+mod Examples

@@ -1,0 +1,23 @@
+//! Addresses, prefixes and ranges of IPv4 and IPv6, and their texts. It stands on pf_base (names, want of
+//! memory) and on std's readers and printers of addresses. The layers above use that a prefix or a range is
+//! a set of addresses, that each text writes at most one address or prefix and exactly the texts of the
+//! form are read, and that what is printed reads back as itself.
+#![tactic(auto)]
+
+pub mod addr;
+pub mod ifaces;
+mod line;
+pub mod parse;
+pub mod prefix;
+pub mod print;
+pub mod range;
+
+pub use addr::Addr;
+pub use ifaces::{DynIf, Ifaces};
+pub use parse::{AddrFault, parse_addr, parse_prefix};
+pub use prefix::Prefix;
+pub use print::{put_addr, put_prefix};
+pub use range::Range;
+
+#[cfg(test)]
+mod tests;

@@ -1,0 +1,2 @@
+mod Subsets
+mod Operators

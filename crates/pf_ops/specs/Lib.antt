@@ -1,0 +1,4 @@
+pub mod Numbers
+pub mod Operator
+pub mod Words
+pub mod WordTable

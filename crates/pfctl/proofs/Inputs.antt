@@ -1,0 +1,164 @@
+-- The input, read piece by piece.
+use Rattle.std.proofs.Common.{◌≡◌, ℕ, ◌+◌, ◌<◌, ◌≤◌, List, [], ◌∷◌, ◌++◌, length, take, drop, Option, Some, None, refl, sym, ap, ◌∙◌, subst, append_assoc, append-nil, arith, length-append, inl, inr}
+use Rattle.std.specs.Io.KnownBytes.{Consumes, IsAtEnd, Keeps}
+use Rattle.std.proofs.lemmas.List.{take-take, take-append-drop}
+use Rattle.std.proofs.Math.Seq.{take-append_seam}
+use Rattle.pf_base.specs.Text.{whole_lines, unfinished, lines_of, line_of_rest, IsOneLine}
+use Rattle.pf_base.proofs.Lines.{lines_go_on_lem}
+use Rattle.pf_source.specs.Causes.{RoseBy}
+use Rattle.pf_source.specs.Told.{SinkTold, SourceTold}
+use Rattle.pf_runs.specs.Runs.{Executes, Stops}
+use Rattle.pfctl.specs.declared.session.Session.{Session}
+use Rattle.pfctl.specs.declared.session.Stop.{Stop}
+use Rattle.pfctl.specs.Doing.{ReadsAll, ReadsPastLimit, ReadsUntilFault, ReadsUntilStop, RunsOver, StopsOver, cause_of, world}
+use Rattle.pfctl.specs.Input.{Reads, most_input, test_lines}
+use Rattle.pfctl.specs.Step.{step}
+use Rattle.pfctl.proofs.Feeding.{runs_over_nothing, runs_over_more, stops_over_more, stops_over_sooner, test_lines-append}
+
+pub Consumes-nothing : (left : Option (List ℕ)) → Consumes left left []
+Consumes-nothing None = tt
+Consumes-nothing (Some bytes) = refl
+
+pub Consumes-more : (a b c : Option (List ℕ)) (xs ys : List ℕ) → Consumes a b xs → Consumes b c ys → Consumes a c (xs ++ ys)
+Consumes-more None b c xs ys h k = tt
+Consumes-more (Some first) None c xs ys h k = absurd h
+Consumes-more (Some first) (Some second) None xs ys h k = absurd k
+Consumes-more (Some first) (Some second) (Some third) xs ys h k = h ∙ (ap (λ rest. xs ++ rest) k ∙ sym (append_assoc xs ys third))
+
+Keeps-is : (b c : Option (List ℕ)) → Keeps b c → Consumes b c []
+Keeps-is None c h = tt
+Keeps-is (Some second) None h = absurd h
+Keeps-is (Some second) (Some third) h = sym h
+
+-- more was read
+pub reads_more : (a b c : SourceTold) (xs ys : List ℕ) → Reads a b xs → Consumes b.left c.left ys → c.given ≡ b.given + length ys → Reads a c (xs ++ ys)
+reads_more a b c xs ys h consumed given = record {
+  consumed = Consumes-more a.left b.left c.left xs ys h.consumed consumed;
+  given = let before = h.given in rw (length-append xs ys) (omega arith);
+}
+
+-- nothing was read
+pub reads_same : (a b c : SourceTold) (xs : List ℕ) → Reads a b xs → Consumes b.left c.left [] → c.given ≡ b.given + 0 → Reads a c xs
+reads_same a b c xs h consumed given = subst (λ (front : List ℕ). Reads a c front) (append-nil xs) (reads_more a b c xs [] h consumed given)
+
+-- What was read so far: its whole lines were executed, and what stands behind them is kept.
+pub record SoFar (first now : Session) (input input' : SourceTold) (old new : SinkTold) (kept : List ℕ) (allowed : ℕ) : Type 0 where
+  pub front : List ℕ
+  pub reads : Reads input input' front
+  pub tail : kept ≡ unfinished front
+  pub left : allowed + length front ≡ most_input
+  pub runs : RunsOver first now old new (whole_lines front)
+  pub later : old.faults ≤ new.faults
+  pub input_later : input.faults ≤ input'.faults
+
+pub kept_is_one_line : (first now : Session) (input input' : SourceTold) (old new : SinkTold) (kept : List ℕ) (allowed : ℕ) → SoFar first now input input' old new kept allowed → IsOneLine kept
+kept_is_one_line first now input input' old new kept allowed h = rw h.tail (lines_go_on_lem h.front []).one
+
+pub nothing_so_far : (session : Session) (input : SourceTold) (sink : SinkTold) → SoFar session session input input sink sink [] most_input
+unfolding whole_lines unfinished
+nothing_so_far session input sink = record {
+  front = [];
+  reads = record { consumed = Consumes-nothing input.left; given = omega arith };
+  tail = refl;
+  left = refl;
+  runs = runs_over_nothing session sink;
+  later = omega arith;
+  input_later = omega arith;
+}
+
+-- a read failed
+pub ends_at_fault : (first now : Session) (a b c : SourceTold) (old new : SinkTold) (kept : List ℕ) (allowed : ℕ) → SoFar first now a b old new kept allowed → Keeps b.left c.left → c.given ≡ b.given + 0 → RoseBy 1 b.faults c.faults → ReadsUntilFault a c (RunsOver first now old new)
+ends_at_fault first now a b c old new kept allowed h keeps given rose = record {
+  front = h.front;
+  reads = reads_same a b c h.front h.reads (Keeps-is b.left c.left keeps) given;
+  within = let left = h.left in omega arith;
+  failed = let before = h.input_later in let from = rose.later in let by = rose.by in record { later = omega arith; by = omega arith };
+  over = h.runs;
+}
+
+same_lines : (first now : Session) (old new : SinkTold) (xs ys : List (List ℕ)) → test_lines xs ≡ test_lines ys → RunsOver first now old new xs → RunsOver first now old new ys
+same_lines first now old new xs ys e h disk files = subst (λ (lines : List (List ℕ)). Executes step disk lines (world first files old) (world now files new)) e (h disk files)
+
+same_stops : (why : Stop) (first now : Session) (old new : SinkTold) (xs ys : List (List ℕ)) → test_lines xs ≡ test_lines ys → StopsOver why first now old new xs → StopsOver why first now old new ys
+same_stops why first now old new xs ys e h disk files = subst (λ (lines : List (List ℕ)). Stops step disk (cause_of why) lines (world first files old) (world now files new)) e (h disk files)
+
+one_rest : (kept : List ℕ) → test_lines (kept ∷ []) ≡ test_lines (line_of_rest kept)
+one_rest [] = refl
+one_rest (byte ∷ kept) = refl
+
+-- the lines of a whole text, its last piece among them
+last_lines : (front kept : List ℕ) → kept ≡ unfinished front → test_lines (whole_lines front ++ kept ∷ []) ≡ test_lines (lines_of front)
+unfolding lines_of
+last_lines front kept tail =
+    test_lines-append (whole_lines front) (kept ∷ []) ∙ (ap (λ ls. test_lines (whole_lines front) ++ ls) (one_rest kept)
+    ∙ (sym (test_lines-append (whole_lines front) (line_of_rest kept)) ∙ ap (λ rest. test_lines (whole_lines front ++ line_of_rest rest)) tail))
+
+pub ends_whole : (first now last : Session) (a b c : SourceTold) (old mid new : SinkTold) (kept : List ℕ) (allowed : ℕ) → SoFar first now a b old mid kept allowed → Consumes b.left c.left [] → c.given ≡ b.given + 0 → IsAtEnd c.left → RunsOver now last mid new (kept ∷ []) → ReadsAll a c (RunsOver first last old new)
+ends_whole first now last a b c old mid new kept allowed h consumed given ended runs = record {
+  front = h.front;
+  reads = reads_same a b c h.front h.reads consumed given;
+  ended = ended;
+  within = let left = h.left in omega arith;
+  over = same_lines first last old new (whole_lines h.front ++ kept ∷ []) (lines_of h.front) (last_lines h.front kept h.tail) (runs_over_more first now last old mid new (whole_lines h.front) (kept ∷ []) h.runs runs);
+}
+
+pub stops_at_last : (why : Stop) (first now last : Session) (a b c : SourceTold) (old mid new : SinkTold) (kept : List ℕ) (allowed : ℕ) → SoFar first now a b old mid kept allowed → Consumes b.left c.left [] → c.given ≡ b.given + 0 → IsAtEnd c.left → StopsOver why now last mid new (kept ∷ []) → ReadsUntilStop a c (StopsOver why first last old new)
+stops_at_last why first now last a b c old mid new kept allowed h consumed given ended stops = record {
+  front = h.front;
+  reads = reads_same a b c h.front h.reads consumed given;
+  lines = lines_of h.front;
+  are = inr (ended, refl);
+  over = same_stops why first last old new (whole_lines h.front ++ kept ∷ []) (lines_of h.front) (last_lines h.front kept h.tail) (stops_over_more why first now last old mid new (whole_lines h.front) (kept ∷ []) h.runs stops);
+}
+
+-- the whole lines of what was read so far with another piece
+joined_lines : (front kept piece : List ℕ) → kept ≡ unfinished front → whole_lines front ++ whole_lines (kept ++ piece) ≡ whole_lines (front ++ piece)
+joined_lines front kept piece tail = ap (λ rest. whole_lines front ++ whole_lines (rest ++ piece)) tail ∙ sym (lines_go_on_lem front piece).whole
+
+-- one more piece
+pub one_piece : (first now last : Session) (a b c : SourceTold) (old mid new : SinkTold) (kept kept' piece : List ℕ) (allowed allowed' : ℕ) → SoFar first now a b old mid kept allowed → Consumes b.left c.left piece → c.given ≡ b.given + length piece → b.faults ≤ c.faults → RunsOver now last mid new (whole_lines (kept ++ piece)) → kept' ≡ unfinished (kept ++ piece) → mid.faults ≤ new.faults → allowed' + length piece ≡ allowed → SoFar first last a c old new kept' allowed'
+one_piece first now last a b c old mid new kept kept' piece allowed allowed' h consumed given faults runs tail later less = record {
+  front = h.front ++ piece;
+  reads = reads_more a b c h.front piece h.reads consumed given;
+  tail = tail ∙ (ap (λ rest. unfinished (rest ++ piece)) h.tail ∙ sym (lines_go_on_lem h.front piece).behind);
+  left = let left = h.left in rw (length-append h.front piece) (omega arith);
+  runs = subst (λ (ls : List (List ℕ)). RunsOver first last old new ls) (joined_lines h.front kept piece h.tail) (runs_over_more first now last old mid new (whole_lines h.front) (whole_lines (kept ++ piece)) h.runs runs);
+  later = let before = h.later in omega arith;
+  input_later = let before = h.input_later in omega arith;
+}
+
+-- the run stops within a piece, of which `used` was looked at
+pub stops_in_piece : (why : Stop) (first now last : Session) (a b c : SourceTold) (old mid new : SinkTold) (kept piece used more : List ℕ) (allowed : ℕ) → SoFar first now a b old mid kept allowed → Consumes b.left c.left piece → c.given ≡ b.given + length piece → piece ≡ used ++ more → StopsOver why now last mid new (whole_lines (kept ++ used)) → ReadsUntilStop a c (StopsOver why first last old new)
+stops_in_piece why first now last a b c old mid new kept piece used more allowed h consumed given parts stops =
+    let here : StopsOver why first last old new (whole_lines (h.front ++ used)) =
+    subst (λ (ls : List (List ℕ)). StopsOver why first last old new ls) (joined_lines h.front kept used h.tail) (stops_over_more why first now last old mid new (whole_lines h.front) (whole_lines (kept ++ used)) h.runs stops) in
+    let all : whole_lines (h.front ++ used) ++ whole_lines (unfinished (h.front ++ used) ++ more) ≡ whole_lines (h.front ++ piece) =
+    sym (lines_go_on_lem (h.front ++ used) more).whole ∙ ap whole_lines (append_assoc h.front used more ∙ ap (λ rest. h.front ++ rest) (sym parts)) in
+    record {
+      front = h.front ++ piece;
+      reads = reads_more a b c h.front piece h.reads consumed given;
+      lines = whole_lines (h.front ++ piece);
+      are = inl refl;
+      over = subst (λ (ls : List (List ℕ)). StopsOver why first last old new ls) all (stops_over_sooner why first last old new (whole_lines (h.front ++ used)) (whole_lines (unfinished (h.front ++ used) ++ more)) here);
+    }
+
+-- more was read than the limit
+pub ends_past_limit : (first now last : Session) (a b c : SourceTold) (old mid new : SinkTold) (kept piece used more : List ℕ) (allowed : ℕ) → SoFar first now a b old mid kept allowed → Consumes b.left c.left piece → c.given ≡ b.given + length piece → piece ≡ used ++ more → length used ≡ allowed → 0 < length more → RunsOver now last mid new (whole_lines (kept ++ used)) → ReadsPastLimit a c (RunsOver first last old new)
+ends_past_limit first now last a b c old mid new kept piece used more allowed h consumed given parts long some runs =
+    let here : RunsOver first last old new (whole_lines (h.front ++ used)) =
+    subst (λ (ls : List (List ℕ)). RunsOver first last old new ls) (joined_lines h.front kept used h.tail) (runs_over_more first now last old mid new (whole_lines h.front) (whole_lines (kept ++ used)) h.runs runs) in
+    let most : length (h.front ++ used) ≡ most_input = let left = h.left in rw (length-append h.front used) (omega arith) in
+    let whole : h.front ++ piece ≡ (h.front ++ used) ++ more = ap (λ rest. h.front ++ rest) parts ∙ sym (append_assoc h.front used more) in
+    let front : take most_input (h.front ++ piece) ≡ h.front ++ used = ap (take most_input) whole ∙ (ap (λ n. take n ((h.front ++ used) ++ more)) (sym most) ∙ take-append_seam (h.front ++ used) more) in
+    record {
+      front = h.front ++ piece;
+      reads = reads_more a b c h.front piece h.reads consumed given;
+      beyond = let e = ap length whole ∙ length-append (h.front ++ used) more in omega (arith, e, most, some);
+      over = subst (λ (bytes : List ℕ). RunsOver first last old new (whole_lines bytes)) (sym front) here;
+    }
+
+-- the front of a piece that is still allowed, and the rest of it
+pub first_of_piece : (buf : List ℕ) (count allowed : ℕ) → allowed ≤ count → take count buf ≡ take allowed buf ++ drop allowed (take count buf)
+first_of_piece buf count allowed less =
+    let front : take allowed (take count buf) ≡ take allowed buf = take-take allowed count buf less in
+    sym (take-append-drop allowed (take count buf)) ∙ ap (λ bytes. bytes ++ drop allowed (take count buf)) front

@@ -1,0 +1,143 @@
+-- A run of the program: the load, and then the input.
+use Rattle.std.proofs.Common.{◌≡◌, ℕ, ◌<◌, ◌==◌, ◌&&◌, get_or, Bool, true, false, List, [], ◌∷◌, length, take, Ok, Err, refl, sym, subst, arith, inl}
+use Rattle.pf_base.specs.Text.{whole_lines, lines_of}
+use Rattle.pf_source.specs.Told.{FilesTold, SinkTold, SourceTold}
+use Rattle.pf_runs.specs.Runs.{Disk, World, Executes, Stops}
+use Rattle.pf_runs.proofs.RunLemmas.{executes_on, stops_on}
+use Rattle.pfctl.specs.declared.program.Status.TheVariants.{Words}
+use Rattle.pfctl.specs.declared.session.Session.{Session}
+use Rattle.pfctl.specs.declared.session.Ending.{Ending}
+use Rattle.pfctl.specs.declared.session.Ending.TheVariants as ending
+use Rattle.pfctl.specs.declared.session.Stop.{Stop}
+use Rattle.pfctl.specs.declared.session.Stop.TheVariants as stop
+use Rattle.pfctl.specs.Doing.{EndsInput, ReadsAll, ReadsUntilStop, RunsOver, StopsOver, cause_of, world}
+use Rattle.pfctl.specs.Input.{most_input, test_lines}
+use Rattle.pfctl.specs.Machine.{Machine, empty_machine}
+use Rattle.pfctl.specs.Program.{Broke, Finished, Means, Ran, is_file_word, is_visible, load_line, opening, outside, program_lines, status_at, status_by}
+use Rattle.pfctl.specs.Step.{step}
+use Rattle.pfctl.proofs.Inputs.{Consumes-nothing}
+use Rattle.pfctl.proofs.Sessions.{Keeps-same, may_fail_same, no_memory}
+use Rattle.std.specs.List.{list_all}
+use Rattle.std.proofs.lemmas.Bool.{ne_eqb}
+
+-- a session begins with the empty machine
+pub begins : (session : Session) (files : FilesTold) (source : SourceTold) (sink : SinkTold) → session.engine ≡ empty_machine → session.refused ≡ false → world session files sink ≡ opening (outside files source sink)
+begins session files source sink machine refused = λ i. record { machine = machine i; refused = refused i; files = files; sink = sink }
+
+module _ (disk : Disk) (file : List ℕ) (s0 s1 s2 : Session) (fa fb : FilesTold) (ia ib : SourceTold) (wa wb wc : SinkTold) (begin : world s0 fa wa ≡ opening (outside fa ia wa)) where
+  -- the load was executed
+  abbrev Loaded : Type 0
+  Loaded = Executes step disk (load_line file ∷ []) (world s0 fa wa) (world s1 fb wb)
+
+  -- the load and then the lines of the input
+  ran_on : Loaded → (lines : List (List ℕ)) → RunsOver s1 s2 wb wc lines → Ran disk (program_lines file lines) s2.refused (outside fa ia wa) (outside fb ib wc)
+  ran_on loaded lines runs = record {
+    machine = s2.engine;
+    executes = subst (λ (w : World Machine). Executes step disk (program_lines file lines) w (world s2 fb wc)) begin
+        (executes_on step disk (load_line file ∷ []) (test_lines lines) (world s0 fa wa) (world s1 fb wb) (world s2 fb wc) loaded (runs disk fb));
+  }
+
+  broke_on : (why : Stop) → Loaded → ReadsUntilStop ia ib (StopsOver why s1 s2 wb wc) → Broke file disk (cause_of why) (outside fa ia wa) (outside fb ib wc)
+  broke_on why loaded h = record {
+    front = h.front;
+    reads = h.reads;
+    lines = h.lines;
+    are = h.are;
+    stopped = record {
+      machine = s2.engine;
+      any_refused = s2.refused;
+      stops = subst (λ (w : World Machine). Stops step disk (cause_of why) (program_lines file h.lines) w (world s2 fb wc)) begin
+          (stops_on step disk (cause_of why) (load_line file ∷ []) (test_lines h.lines) (world s0 fa wa) (world s1 fb wb) (world s2 fb wc) loaded (h.over disk fb));
+    };
+  }
+
+  finished : Loaded → ReadsAll ia ib (RunsOver s1 s2 wb wc) → (refused : Bool) → s2.refused ≡ refused → Finished file disk refused (outside fa ia wa) (outside fb ib wc)
+  finished loaded h refused e = record {
+    front = h.front;
+    reads = h.reads;
+    ended = h.ended;
+    within = h.within;
+    ran = subst (λ (b : Bool). Ran disk (program_lines file (lines_of h.front)) b (outside fa ia wa) (outside fb ib wc)) e (ran_on loaded (lines_of h.front) h.over);
+  }
+
+  -- the run came to an end of the input
+  pub means_ended : Loaded → (end : Ending) (any : Bool) → s2.refused ≡ any → EndsInput s1 s2 ia ib wb wc (Ok end) → Means file disk (outside fa ia wa) (outside fb ib wc) (status_at end any)
+  means_ended loaded ending.AtEnd true e h = finished loaded h true e
+  means_ended loaded ending.AtEnd false e h = finished loaded h false e
+  means_ended loaded ending.ReadFault any e h = record { front = h.front; reads = h.reads; within = h.within; any_refused = s2.refused; ran = ran_on loaded (whole_lines h.front) h.over }
+  means_ended loaded ending.TooMuch any e h = record { front = h.front; reads = h.reads; over = h.beyond; any_refused = s2.refused; ran = ran_on loaded (whole_lines (take most_input h.front)) h.over }
+
+  -- the run stopped within the input
+  pub means_stopped : Loaded → (why : Stop) → EndsInput s1 s2 ia ib wb wc (Err why) → Means file disk (outside fa ia wa) (outside fb ib wc) (status_by (Err why))
+  means_stopped loaded stop.WriteFault h = broke_on stop.WriteFault loaded h
+  means_stopped loaded stop.NoMemory h = broke_on stop.NoMemory loaded h
+
+no_lines : whole_lines [] ≡ []
+unfolding whole_lines
+no_lines = refl
+
+-- the run stopped at its load, before the input was read
+module _ (disk : Disk) (file : List ℕ) (s0 s1 : Session) (fa fb : FilesTold) (ia : SourceTold) (wa wb : SinkTold) (begin : world s0 fa wa ≡ opening (outside fa ia wa)) where
+  broke_first : (why : Stop) → Stops step disk (cause_of why) (load_line file ∷ []) (world s0 fa wa) (world s1 fb wb) → Broke file disk (cause_of why) (outside fa ia wa) (outside fb ia wb)
+  broke_first why h = record {
+    front = [];
+    reads = record { consumed = Consumes-nothing ia.left; given = omega arith };
+    lines = [];
+    are = inl (sym no_lines);
+    stopped = record {
+      machine = s1.engine;
+      any_refused = s1.refused;
+      stops = subst (λ (w : World Machine). Stops step disk (cause_of why) (load_line file ∷ []) w (world s1 fb wb)) begin h;
+    };
+  }
+
+  pub means_unloaded : (why : Stop) → Stops step disk (cause_of why) (load_line file ∷ []) (world s0 fa wa) (world s1 fb wb) → Means file disk (outside fa ia wa) (outside fb ia wb) (status_by (Err why))
+  means_unloaded stop.WriteFault h = broke_first stop.WriteFault h
+  means_unloaded stop.NoMemory h = broke_first stop.NoMemory h
+
+-- no memory for the file's name: nothing was done
+pub means_nothing : (disk : Disk) (file : List ℕ) (files : FilesTold) (source : SourceTold) (sink : SinkTold) → Means file disk (outside files source sink) (outside files source sink) (status_by (Err stop.NoMemory))
+means_nothing disk file files source sink = record {
+  front = [];
+  reads = record { consumed = Consumes-nothing source.left; given = omega arith };
+  lines = [];
+  are = inl (sym no_lines);
+  stopped = record {
+    machine = empty_machine;
+    any_refused = false;
+    stops = no_memory disk (load_line file ∷ []) (opening (outside files source sink)) (opening (outside files source sink)) (may_fail_same files) (Keeps-same sink.written);
+  };
+}
+
+pub empty_is_no_file : (word : List ℕ) → length word ≡ 0 → is_file_word word ≡ false
+empty_is_no_file [] h = refl
+empty_is_no_file (byte ∷ word) h = absurd (omega arith)
+
+and_false : (b : Bool) → (b && false) ≡ false
+and_false true = refl
+and_false false = refl
+
+and_true : (b : Bool) → (b && true) ≡ b
+and_true true = refl
+and_true false = refl
+
+pub dash_is_no_file : (word : List ℕ) → 0 < length word → get_or word 0 0 ≡ 45 → is_file_word word ≡ false
+dash_is_no_file [] some h = absurd (omega arith)
+dash_is_no_file (byte ∷ word) some h = rw h (and_false (list_all is_visible (45 ∷ word)))
+
+pub other_is_file : (word : List ℕ) → 0 < length word → (get_or word 0 0 ≡ 45 → ⊥) → is_file_word word ≡ list_all is_visible word
+other_is_file [] some h = absurd (omega arith)
+other_is_file (byte ∷ word) some h =
+    let no_dash : (byte == 45) ≡ false = ne_eqb byte 45 h in
+    rw no_dash (and_true (list_all is_visible (byte ∷ word)))
+
+-- a run that began has another status than `Words`
+pub status_at_is_read : (end : Ending) (any : Bool) → status_at end any ≡ Words → ⊥
+status_at_is_read ending.AtEnd true h = cc
+status_at_is_read ending.AtEnd false h = cc
+status_at_is_read ending.ReadFault any h = cc
+status_at_is_read ending.TooMuch any h = cc
+
+pub stop_is_read : (why : Stop) → status_by (Err why) ≡ Words → ⊥
+stop_is_read stop.WriteFault h = cc
+stop_is_read stop.NoMemory h = cc

@@ -1,0 +1,114 @@
+-- What the parts of the program do: a step of the machine, a write of its reply, lines that are executed.
+use Rattle.std.specs.Prelude.{◌≡◌, ℕ, ◌+◌, ◌<◌, ◌≤◌, Bool, true, false, List, length, take, Result, Ok, Err}
+use Rattle.std.specs.Io.KnownBytes.{Appends, IsAtEnd, Keeps}
+use Rattle.pf_base.specs.Text.{lines_of, whole_lines}
+use Rattle.pf_source.specs.Causes.{Rose}
+use Rattle.pf_source.specs.Files.{StaysHeld}
+use Rattle.pf_source.specs.Streams.{WritesFront}
+use Rattle.pf_source.specs.Told.{FilesTold, SinkTold, SourceTold}
+use Rattle.pf_runs.specs.Runs.{Disk, World, Stepped, AddsNames, reply_text, Executes, Stops, Cause, Write_failed, Out_of_memory}
+use Rattle.pfctl.specs.declared.engine.Outcome.{Outcome}
+use Rattle.pfctl.specs.declared.engine.Outcome.TheVariants as outcome
+use Rattle.pfctl.specs.declared.session.Ending.{Ending}
+use Rattle.pfctl.specs.declared.session.Ending.TheVariants as ending
+use Rattle.pfctl.specs.declared.session.Session.{Session}
+use Rattle.pfctl.specs.declared.session.Stop.{Stop}
+use Rattle.pfctl.specs.declared.session.Stop.TheVariants as stop
+use Rattle.pfctl.specs.Input.{LinesRead, Reads, most_input, test_lines}
+use Rattle.pfctl.specs.Machine.{Machine}
+use Rattle.pfctl.specs.Step.{step}
+
+abbrev pub is_refused : Outcome → Bool
+is_refused outcome.Done = false
+is_refused outcome.Refused = true
+
+-- the machine, the reply's bytes and the outcome are those of the step
+pub record Does (stepped : Stepped Machine) (machine : Machine) (reply : List ℕ) (refused : Bool) : Type 0 where
+  pub machine_is : machine ≡ stepped.machine
+  pub reply_is : reply ≡ reply_text stepped.reply
+  pub refused_is : refused ≡ stepped.refused
+
+-- files that may have failed in a call
+pub record MayFail (old new : FilesTold) : Type 0 where
+  pub held : StaysHeld old new
+  pub counted : old.faults ≤ new.faults
+  pub more : List (List ℕ)
+  pub named : AddsNames more old.failed new.failed
+
+abbrev pub cause_of : Stop → Cause
+cause_of stop.WriteFault = Write_failed
+cause_of stop.NoMemory = Out_of_memory
+
+-- a reply is written whole, or a front of it at a failed write, or nothing for want of memory
+abbrev pub Sends : {X : Type 0} → SinkTold → SinkTold → List ℕ → Result X Stop → Type 0
+Sends old new reply (Ok x) = Appends old.written new.written reply
+Sends old new reply (Err stop.WriteFault) = WritesFront old.written new.written reply
+Sends old new reply (Err stop.NoMemory) = Keeps old.written new.written
+
+-- the lines were executed, or a front of them where the run stopped
+abbrev pub Performs : {X : Type 0} → Disk → List (List ℕ) → World Machine → World Machine → Result X Stop → Type 0
+Performs disk lines before after (Ok x) = Executes step disk lines before after
+Performs disk lines before after (Err why) = Stops step disk (cause_of why) lines before after
+
+-- a run stops at a failed write only where the sink's count rose; the count never falls
+abbrev pub FailsByCount : {X : Type 0} → SinkTold → SinkTold → Result X Stop → Type 0
+FailsByCount old new (Ok x) = old.faults ≤ new.faults
+FailsByCount old new (Err stop.WriteFault) = Rose old.faults new.faults
+FailsByCount old new (Err stop.NoMemory) = old.faults ≤ new.faults
+
+-- the world of a run at one moment
+abbrev pub world : Session → FilesTold → SinkTold → World Machine
+world session files sink = record { machine = session.engine; refused = session.refused; files = files; sink = sink }
+
+-- a run over these lines of the input, whatever the files tell, which aren't asked
+abbrev pub RunsOver : Session → Session → SinkTold → SinkTold → List (List ℕ) → Type 0
+RunsOver before after old new lines = (disk : Disk) (files : FilesTold) → Executes step disk (test_lines lines) (world before files old) (world after files new)
+
+-- the same, where the run stopped
+abbrev pub StopsOver : Stop → Session → Session → SinkTold → SinkTold → List (List ℕ) → Type 0
+StopsOver why before after old new lines = (disk : Disk) (files : FilesTold) → Stops step disk (cause_of why) (test_lines lines) (world before files old) (world after files new)
+
+-- The whole input was read, within its limit, and every line of it was executed.
+pub record ReadsAll (input input' : SourceTold) (Over : List (List ℕ) → Type 0) : Type 0 where
+  pub front : List ℕ
+  pub reads : Reads input input' front
+  pub ended : IsAtEnd input'.left
+  pub within : length front ≤ most_input
+  pub over : Over (lines_of front)
+
+-- A read failed behind these bytes: their whole lines were executed.
+pub record ReadsUntilFault (input input' : SourceTold) (Over : List (List ℕ) → Type 0) : Type 0 where
+  pub front : List ℕ
+  pub reads : Reads input input' front
+  pub within : length front ≤ most_input
+  pub failed : Rose input.faults input'.faults
+  pub over : Over (whole_lines front)
+
+-- More was read than the limit: the lines that end within it were executed.
+pub record ReadsPastLimit (input input' : SourceTold) (Over : List (List ℕ) → Type 0) : Type 0 where
+  pub front : List ℕ
+  pub reads : Reads input input' front
+  pub beyond : most_input < length front
+  pub over : Over (whole_lines (take most_input front))
+
+-- The run stopped at some line of what was read.
+pub record ReadsUntilStop (input input' : SourceTold) (Over : List (List ℕ) → Type 0) : Type 0 where
+  pub front : List ℕ
+  pub reads : Reads input input' front
+  pub lines : List (List ℕ)
+  pub are : LinesRead input' front lines
+  pub over : Over lines
+
+-- how the reading of the input ends
+abbrev pub EndsInput : Session → Session → SourceTold → SourceTold → SinkTold → SinkTold → Result Ending Stop → Type 0
+EndsInput before after input input' old new (Ok ending.AtEnd) = ReadsAll input input' (RunsOver before after old new)
+EndsInput before after input input' old new (Ok ending.ReadFault) = ReadsUntilFault input input' (RunsOver before after old new)
+EndsInput before after input input' old new (Ok ending.TooMuch) = ReadsPastLimit input input' (RunsOver before after old new)
+EndsInput before after input input' old new (Err why) = ReadsUntilStop input input' (StopsOver why before after old new)
+
+-- how many bytes were given, by how the reading ended: no more than the limit, or more
+abbrev pub GivesWithin : ℕ → ℕ → Result Ending Stop → Type 0
+GivesWithin old new (Ok ending.AtEnd) = new ≤ old + most_input
+GivesWithin old new (Ok ending.ReadFault) = new ≤ old + most_input
+GivesWithin old new (Ok ending.TooMuch) = old + most_input < new
+GivesWithin old new (Err why) = Unit {0}

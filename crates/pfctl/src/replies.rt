@@ -1,0 +1,103 @@
+//! The text of the replies. Each call replaces what the reply's buffer held.
+ghost use Rattle.std.specs.Prelude.{◌≡◌, ◌++◌, [], ◌∷◌, codes, IfOk, OnOk};
+ghost use Rattle.pf_rule.specs.AnswerText.{answer_text};
+ghost use Rattle.pf_runs.specs.Runs.{reply_text};
+ghost use Rattle.pfctl.specs.Replies.{bad_command_text, bad_packet_text, cannot_read_text, field_text, kind_text, load_fault_text, loaded_text};
+
+use pf_base::{FaultKind, NoMemory};
+use pf_rule::{Answer, Field, put_answer};
+use std::alloc::Global;
+
+/// An accepted load with this many rules.
+pub fn reply_loaded(alloc: Global, reply: &mut Vec<u8>, rules: usize) -> Result<(), NoMemory>
+    ensures { OnOk result (reply.new.items ≡ reply_text (loaded_text rules ∷ [])) }
+{
+    reply.clear();
+    reply.extend_from_slice(b"ok load rulesets=1 rules=")?;
+    reply.extend_from_slice(rules.to_string(alloc)?.as_bytes())?;
+    reply.extend_from_slice(b" tables=0\n")?;
+    Ok(())
+}
+
+/// A line that is no command.
+pub fn reply_bad_command(reply: &mut Vec<u8>) -> Result<(), NoMemory>
+    ensures { OnOk result (reply.new.items ≡ reply_text (bad_command_text ∷ [])) }
+{
+    reply.clear();
+    reply.extend_from_slice(b"refused 1 BadCommand\n")?;
+    Ok(())
+}
+
+// The name of a kind of fault.
+fn kind_name(kind: FaultKind) -> &'static [u8]
+    ensures { result.now ≡ kind_text kind }
+{
+    match kind {
+        FaultKind::TooLarge => b"TooLarge",
+        FaultKind::Syntax => b"Syntax",
+    }
+}
+
+/// A load that was refused for a fault at this line of the file.
+pub fn reply_load_fault(
+    alloc: Global,
+    reply: &mut Vec<u8>,
+    kind: FaultKind,
+    file: &[u8],
+    line: u32,
+) -> Result<(), NoMemory>
+    ensures { OnOk result (reply.new.items ≡ reply_text (load_fault_text (kind_text kind) file.now line ∷ [])) }
+{
+    reply.clear();
+    reply.extend_from_slice(b"refused 2 LoadFault ")?;
+    reply.extend_from_slice(kind_name(kind))?;
+    reply.extend_from_slice(b" ")?;
+    reply.extend_from_slice(file)?;
+    reply.extend_from_slice(b":")?;
+    reply.extend_from_slice(line.to_string(alloc)?.as_bytes())?;
+    reply.extend_from_slice(b"\n")?;
+    Ok(())
+}
+
+/// A file that can't be read.
+pub fn reply_cannot_read(reply: &mut Vec<u8>, file: &[u8]) -> Result<(), NoMemory>
+    ensures { OnOk result (reply.new.items ≡ reply_text (cannot_read_text file.now ∷ [])) }
+{
+    reply.clear();
+    reply.extend_from_slice(b"refused 3 CannotRead ")?;
+    reply.extend_from_slice(file)?;
+    reply.extend_from_slice(b"\n")?;
+    Ok(())
+}
+
+// The name of a record's field.
+fn field_name(field: Field) -> &'static [u8]
+    ensures { result.now ≡ field_text field }
+{
+    match field {
+        Field::Direction => b"direction",
+        Field::Interface => b"interface",
+        Field::Protocol => b"protocol",
+    }
+}
+
+/// A record that is outside its form at this field.
+pub fn reply_bad_packet(reply: &mut Vec<u8>, field: Field) -> Result<(), NoMemory>
+    ensures { OnOk result (reply.new.items ≡ reply_text (bad_packet_text field ∷ [])) }
+{
+    reply.clear();
+    reply.extend_from_slice(b"refused 11 BadPacket ")?;
+    reply.extend_from_slice(field_name(field))?;
+    reply.extend_from_slice(b"\n")?;
+    Ok(())
+}
+
+/// The answer to a packet.
+pub fn reply_answer(reply: &mut Vec<u8>, answer: &Answer) -> Result<(), NoMemory>
+    ensures { OnOk result (reply.new.items ≡ reply_text (answer_text answer.now ∷ [])) }
+{
+    reply.clear();
+    put_answer(reply, answer)?;
+    reply.extend_from_slice(b"\n")?;
+    Ok(())
+}
