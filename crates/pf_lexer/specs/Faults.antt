@@ -114,8 +114,8 @@ rank BadByte = 0
 rank Unterminated = 1
 rank (MacroUndefined name) = 2
 rank MacroName = 3
-rank TooLarge = 5
-rank Syntax = 6
+rank TooLarge = 4
+rank Syntax = 5
 
 -- of two faults the one that is tried first, and of one kind the earlier
 abbrev pub earlier : FaultOf → Option FaultOf → FaultOf

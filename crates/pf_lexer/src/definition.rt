@@ -69,8 +69,8 @@ impl Cause {
             Cause::Unterminated => 1,
             Cause::MacroUndefined(_) => 2,
             Cause::MacroName => 3,
-            Cause::TooLarge => 5,
-            Cause::Syntax => 6,
+            Cause::TooLarge => 4,
+            Cause::Syntax => 5,
         }
     }
 }

@@ -1,5 +1,5 @@
-//! The tokens of a configuration, and the statements and macros of its files. It stands on pf_base.
-//! The layer above reads statements, token by token.
+//! The tokens of a configuration, its macros, and the statements of its files, pf.conf(5). It stands on pf_base.
+//! The layer above makes macros and takes statements: their tokens with places, whether a body follows, and the first fault.
 #![tactic(auto)]
 
 mod byte;
