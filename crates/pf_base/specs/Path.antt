@@ -1,9 +1,9 @@
 -- Paths of rulesets: names separated by `/` (pf.conf(5), Anchors).
 use Rattle.std.specs.Prelude.{◌≡◌, ℕ, ◌+◌, ◌≤◌, Bool, true, false, not, ◌&&◌, ◌||◌, ◌==◌, nat_lt, nat_le, if◌then◌else◌, List, [], ◌∷◌, ◌++◌, length, codes, Option, Some, None, Result, Ok, Err}
-use Rattle.std.specs.Char.{is_ascii_alphanumeric}
 use Rattle.std.specs.Str.{bytes_eq}
 use Rattle.std.specs.List.{list_all, join_with_byte, position, slice_split}
 use Rattle.std.specs.Option.{option_or, option_map}
+use Rattle.pf_base.specs.Name.{is_name_byte}
 use Rattle.pf_base.specs.Text.{is_nothing}
 use Rattle.pf_base.specs.declared.path_fault.PathFault.{PathFault}
 use Rattle.pf_base.specs.declared.path_fault.PathFault.TheVariants.{Empty, BadByte, Reserved, TooLong, TooDeep}
@@ -11,18 +11,13 @@ use Rattle.pf_base.specs.declared.path_fault.PathFault.TheVariants.{Empty, BadBy
 abbrev pub is_slash : ℕ → Bool
 is_slash byte = byte == 47
 
--- a byte that a name of a path may have: a letter, a digit or one of _ - . : + @
-unfoldable pub is_path_byte : ℕ → Bool
-is_path_byte byte =
-    is_ascii_alphanumeric byte || byte == 95 || byte == 45 || byte == 46 || byte == 58 || byte == 43 || byte == 64
-
 -- `.` and `..` are no names
 unfoldable pub is_dots : List ℕ → Bool
 is_dots name = bytes_eq name (codes ".") || bytes_eq name (codes "..")
 
 -- whether a name may stand in a path
 unfoldable pub is_path_name : List ℕ → Bool
-is_path_name name = list_all is_path_byte name && not (is_dots name)
+is_path_name name = list_all is_name_byte name && not (is_dots name)
 
 -- names that begin with `_` are those of anchors without a name
 unfoldable pub is_reserved : List ℕ → Bool
@@ -54,7 +49,7 @@ pub record IsPathText (any : Bool) (names : List (List ℕ)) (text : List ℕ) :
 unfoldable pub bad_byte : ℕ → List ℕ → Option PathFault
 bad_byte start name =
     if is_dots name then Some (BadByte start)
-    else option_map (λ i. BadByte (start + i)) (position (λ byte. not (is_path_byte byte)) name)
+    else option_map (λ i. BadByte (start + i)) (position (λ byte. not (is_name_byte byte)) name)
 
 -- the fault of a name that begins at a position of the text, where it has one
 unfoldable pub name_fault : Bool → ℕ → List ℕ → Option PathFault

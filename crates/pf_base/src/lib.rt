@@ -11,6 +11,7 @@ pub mod name;
 pub mod path;
 pub mod path_fault;
 mod path_text;
+pub mod plain;
 pub mod steps;
 pub mod text;
 
@@ -21,6 +22,7 @@ pub use memory::NoMemory;
 pub use name::Name;
 pub use path::Path;
 pub use path_fault::PathFault;
+pub use plain::plain_name;
 pub use steps::{Ledger, Steps};
 
 #[cfg(test)]

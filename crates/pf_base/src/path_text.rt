@@ -1,33 +1,20 @@
 //! Reads the text of a path.
 ghost use Rattle.std.specs.Prelude.{◌≡◌, ◌+◌, ◌<◌, ◌^◌, ◌∷◌, length, not, position};
 ghost use Rattle.std.specs.Option.{option_copied};
-ghost use Rattle.std.specs.List.{list_all, slice_split};
+ghost use Rattle.std.specs.List.{slice_split};
+ghost use Rattle.pf_base.specs.Name.{is_name_byte};
 ghost use Rattle.pf_base.specs.Path as path;
 
 use crate::name::Name;
+use crate::plain::{are_name_bytes, is_name_byte};
 use crate::path::Path;
 use crate::path_fault::PathFault;
 
-// May the byte stand in a name of a path?
-#[tactic(auto, unfolding(crate::specs::Path::is_path_byte))]
-fn is_path_byte(byte: u8) -> bool
-    ensures { result ≡ path.is_path_byte byte }
-{
-    byte.is_ascii_alphanumeric() || matches!(byte, b'_' | b'-' | b'.' | b':' | b'+' | b'@')
-}
-
 // The first place of a byte that no name has.
 fn bad_place(name: &[u8]) -> Option<usize>
-    ensures { result ≡ position (λ byte. not (path.is_path_byte byte)) name.now }
+    ensures { result ≡ position (λ byte. not (is_name_byte byte)) name.now }
 {
-    name.iter().position(|byte| !is_path_byte(*byte))
-}
-
-// May each byte stand in a name of a path?
-fn are_path_bytes(name: &[u8]) -> bool
-    ensures { result ≡ list_all path.is_path_byte name.now }
-{
-    name.iter().all(|byte| is_path_byte(*byte))
+    name.iter().position(|byte| !is_name_byte(*byte))
 }
 
 // Is the text `.` or `..`?
@@ -43,7 +30,7 @@ fn is_dots(name: &[u8]) -> bool
 pub(crate) fn is_path_name(name: &[u8]) -> bool
     ensures { result ≡ path.is_path_name name.now }
 {
-    are_path_bytes(name) && !is_dots(name)
+    are_name_bytes(name) && !is_dots(name)
 }
 
 // Does the name begin with `_`?

@@ -73,7 +73,16 @@ pub fn split_field(text: &[u8]) -> (&[u8], Option<&[u8]>)
 }
 
 /// The number of a text of decimal digits, where it is at most `most`. Leading zeros may stand.
+#[tactic(auto, unfolding(crate::specs::Decimal::decimal_of))]
 pub fn decimal(text: &[u8], most: u32) -> Option<u32>
+    ensures value { result ≡ decimal_of most text.now }
+    ensures bound { IfSome result (λ n. n ≤ most) }
+{
+    read_decimal(text, most)
+}
+
+// Reads digit by digit.
+fn read_decimal(text: &[u8], most: u32) -> Option<u32>
     ensures { result ≡ decimal_of most text.now }
 {
     if text.is_empty() {

@@ -1,6 +1,6 @@
 use Rattle.std.proofs.Common.{drop}
 use Rattle.pf_base.proofs.Decimals.{ReadsTo}
-use Rattle.pf_base.proofs.text.decimal.Given as goal
+use Rattle.pf_base.proofs.text.read_decimal.Given as goal
 
 -- the digits so far make the value
 abbrev pub invariant-loop-byte : goal.invariant-loop-byte

@@ -4,7 +4,7 @@ use Rattle.std.proofs.lemmas.List.{drop_all}
 use Rattle.pf_base.specs.Decimal.{decimal_of}
 use Rattle.pf_base.specs.Text.{is_nothing}
 use Rattle.pf_base.proofs.Decimals.{reads_digit, no_digit, above_most, read_whole}
-use Rattle.pf_base.proofs.text.decimal.Goals as goal
+use Rattle.pf_base.proofs.text.read_decimal.Goals as goal
 
 nothing_is_none : (most : ℕ) (text : List ℕ) → (length text == 0) ≡ true → decimal_of most text ≡ None
 unfolding decimal_of

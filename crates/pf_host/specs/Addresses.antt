@@ -1,0 +1,25 @@
+-- Which of the addresses of interfaces are asked for, and as what.
+use Rattle.std.specs.Prelude.{Bool, true, false, not, ◌&&◌, List, [], ◌∷◌, filter}
+use Rattle.std.specs.Str.{bytes_eq}
+use Rattle.pf_addr.specs.Addr.{same_family}
+use Rattle.pf_addr.specs.declared.prefix.Prefix.{Prefix}
+use Rattle.pf_host.specs.declared.iface_address.IfaceAddress.{IfaceAddress}
+
+-- both are addresses of one family of one interface
+abbrev pub is_beside : IfaceAddress → IfaceAddress → Bool
+is_beside a b = bytes_eq a.iface b.iface && same_family a.address.addr b.address.addr
+
+-- the first address of each family of each interface
+abbrev pub first_of_each : List IfaceAddress → List IfaceAddress
+first_of_each [] = []
+first_of_each (a ∷ addresses) = a ∷ filter (λ b. not (is_beside a b)) (first_of_each addresses)
+
+-- all addresses, or with `first`, which is `:0` of pf.conf(5), the first ones
+abbrev pub addresses_listed : Bool → List IfaceAddress → List IfaceAddress
+addresses_listed false addresses = addresses
+addresses_listed true addresses = first_of_each addresses
+
+-- the address as a prefix of all its bits, or with `network`, which is `:network` of pf.conf(5), its network
+abbrev pub prefix_listed : Bool → IfaceAddress → Prefix
+prefix_listed false address = address.address
+prefix_listed true address = address.network
