@@ -1,4 +1,0 @@
-pub mod Decisions
-pub mod Examples
-pub mod Walks
-pub mod Words

@@ -1,9 +1,0 @@
-pub mod Answer
-pub mod AnswerText
-pub mod Criteria
-pub mod Deciding
-pub mod Effect
-pub mod Hit
-pub mod Opening
-pub mod Record
-pub mod Walk
