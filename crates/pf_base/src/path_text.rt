@@ -6,9 +6,9 @@ ghost use Rattle.pf_base.specs.Name.{is_name_byte};
 ghost use Rattle.pf_base.specs.Path as path;
 
 use crate::name::Name;
-use crate::plain::{are_name_bytes, is_name_byte};
 use crate::path::Path;
 use crate::path_fault::PathFault;
+use crate::plain::{are_name_bytes, is_name_byte};
 
 // The first place of a byte that no name has.
 fn bad_place(name: &[u8]) -> Option<usize>
