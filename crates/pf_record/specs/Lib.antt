@@ -1,0 +1,10 @@
+pub mod AnswerText
+pub mod FieldName
+pub mod Keys
+pub mod NameText
+pub mod ParamText
+pub mod Parts
+pub mod Reading
+pub mod Record
+pub mod StateText
+pub mod Words

@@ -1,0 +1,136 @@
+-- How a record is read: its words one after the other, the values of its keys, and then the faults among these.
+use Rattle.std.specs.Prelude.{◌≡◌, ℕ, Bool, true, false, ◌&&◌, not, List, [], ◌∷◌, drop, length, Option, Some, None, Result, Ok, Err, is_some, is_none, if◌then◌else◌, codes, nat_eq}
+use Rattle.std.specs.List.{slice_get, starts_with}
+use Rattle.std.specs.Option.{option_or, option_copied, ok_or}
+use Rattle.pf_base.specs.Text.{fields_of, is_nothing}
+use Rattle.pf_base.specs.Name.{is_plain_name}
+use Rattle.pf_addr.specs.declared.addr.Addr.{Addr}
+use Rattle.pf_rule.specs.declared.packet.Direction.{Direction}
+use Rattle.pf_record.specs.declared.field.Field.{Field}
+use Rattle.pf_record.specs.declared.field.Field.TheVariants.{Sport, Dport, Flags, Icmptype, Code, Tos, Prio, User, Group, Tag, Extra}
+use Rattle.pf_record.specs.declared.field.PacketFault.{PacketFault}
+use Rattle.pf_record.specs.declared.head.Head.{Head}
+use Rattle.pf_record.specs.declared.values.KeyValues.{KeyValues}
+use Rattle.pf_record.specs.Keys.{any_proto, is_flags, is_number}
+use Rattle.pf_record.specs.Record.{Values, Writes, fault_of}
+use Rattle.pf_record.specs.Words.{is_tcp, has_ports, has_types}
+
+-- the words of what is left, where something is left
+abbrev pub words_left : Option (List ℕ) → List (List ℕ)
+words_left None = []
+words_left (Some text) = fields_of text
+
+-- what stands behind these bytes in a word that begins with them
+abbrev pub value_behind : List ℕ → List ℕ → Option (List ℕ)
+value_behind begins word = if starts_with nat_eq word begins then Some (drop (length begins) word) else None
+
+-- the value of a key that the first of these words has
+abbrev pub first_value : List ℕ → List (List ℕ) → Option (List ℕ)
+first_value begins [] = None
+first_value begins (word ∷ words) = value_behind begins word
+
+-- the words without that one
+abbrev pub behind_first : List ℕ → List (List ℕ) → List (List ℕ)
+behind_first begins [] = []
+behind_first begins (word ∷ words) = if is_some (value_behind begins word) then words else word ∷ words
+
+-- the values of keys, each where its word comes next
+abbrev pub values_in : List (List ℕ) → List (List ℕ) → List (Option (List ℕ))
+values_in [] words = []
+values_in (begins ∷ keys) words = first_value begins words ∷ values_in keys (behind_first begins words)
+
+-- the words behind them
+abbrev pub rest_behind : List (List ℕ) → List (List ℕ) → List (List ℕ)
+rest_behind [] words = words
+rest_behind (begins ∷ keys) words = rest_behind keys (behind_first begins words)
+
+-- how the words of the keys begin, in their order
+abbrev pub beginnings : List (List ℕ)
+beginnings =
+    codes "sport="
+    ∷ codes "dport="
+    ∷ codes "flags="
+    ∷ codes "icmptype="
+    ∷ codes "code="
+    ∷ codes "tos="
+    ∷ codes "prio="
+    ∷ codes "user="
+    ∷ codes "group="
+    ∷ codes "tag="
+    ∷ []
+
+abbrev pub is_empty : List (List ℕ) → Bool
+is_empty [] = true
+is_empty (word ∷ words) = false
+
+-- the values as the code has them
+abbrev pub values_of : KeyValues → Values
+values_of v = record {
+  sport = option_copied v.sport;
+  dport = option_copied v.dport;
+  flags = option_copied v.flags;
+  icmptype = option_copied v.icmptype;
+  code = option_copied v.code;
+  tos = option_copied v.tos;
+  prio = option_copied v.prio;
+  user = option_copied v.user;
+  group = option_copied v.group;
+  tag = option_copied v.tag;
+}
+
+abbrev pub list_of : Values → List (Option (List ℕ))
+list_of v =
+    v.sport ∷ v.dport ∷ v.flags ∷ v.icmptype ∷ v.code ∷ v.tos ∷ v.prio ∷ v.user ∷ v.group ∷ v.tag ∷ []
+
+-- the values are those of keys in the order of the table, and `extra` says whether more words stand behind them
+pub record AreCut (words : List (List ℕ)) (v : Values) (extra : Bool) : Type 0 where
+  pub values : list_of v ≡ values_in beginnings words
+  pub rest : extra ≡ not (is_empty (rest_behind beginnings words))
+
+-- a value where the protocol has its key, and what holds without it
+abbrev pub value_read : {A : Type 0} → Bool → (List ℕ → Option A) → A → Field → Option (List ℕ) → Result A PacketFault
+value_read has read without field None = Ok without
+value_read has read without field (Some value) = if has then ok_or (read value) (record { 0 = field }) else Err (record { 0 = field })
+
+-- the fault of a key that is given
+abbrev pub value_fault : Bool → (List ℕ → Bool) → Field → Option (List ℕ) → Option Field
+value_fault has takes field None = None
+value_fault has takes field (Some value) = if has && takes value then None else Some field
+
+-- the first fault of the keys that are given
+unfoldable pub values_fault : ℕ → Values → Option Field
+values_fault proto v =
+    option_or (value_fault (has_ports proto) (is_number 65535) Sport v.sport)
+    (option_or (value_fault (has_ports proto) (is_number 65535) Dport v.dport)
+    (option_or (value_fault (is_tcp proto) is_flags Flags v.flags)
+    (option_or (value_fault (has_types proto) (is_number 255) Icmptype v.icmptype)
+    (option_or (value_fault (has_types proto) (is_number 255) Code v.code)
+    (option_or (value_fault (any_proto proto) (is_number 255) Tos v.tos)
+    (option_or (value_fault (any_proto proto) (is_number 7) Prio v.prio)
+    (option_or (value_fault (has_ports proto) (is_number 4294967295) User v.user)
+    (option_or (value_fault (has_ports proto) (is_number 4294967295) Group v.group)
+    (value_fault (any_proto proto) is_plain_name Tag v.tag)))))))))
+
+-- a key that has to be given
+abbrev pub lacks : Bool → Field → Option (List ℕ) → Option Field
+lacks has field value = if has && is_none value then Some field else None
+
+-- the fault behind the keys: one more word, or a key that is missing
+unfoldable pub end_fault : ℕ → Values → Bool → Option Field
+end_fault proto v extra =
+    if extra then Some Extra
+    else option_or (lacks (has_ports proto) Sport v.sport)
+    (option_or (lacks (has_ports proto) Dport v.dport)
+    (option_or (lacks (has_types proto) Icmptype v.icmptype) (lacks (has_types proto) Code v.code)))
+
+-- the fault of a result
+abbrev pub fault_in : {A : Type 0} → Result A PacketFault → Option Field
+fault_in (Ok value) = None
+fault_in (Err fault) = Some fault.0
+
+-- what the first five words are read as
+pub record IsHead (words : List (List ℕ)) (head : Head) : Type 0 where
+  pub source : Writes (slice_get words 3) head.source
+  pub target : Writes (slice_get words 4) head.target
+  pub source_only : (other : Option Addr) → Writes (slice_get words 3) other → other ≡ head.source
+  pub target_only : (other : Option Addr) → Writes (slice_get words 4) other → other ≡ head.target

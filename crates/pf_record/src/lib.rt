@@ -1,0 +1,11 @@
+//! The record of a packet, read from its text, and the answer to a packet, printed as text.
+//! It stands on pf_base, pf_addr, pf_ops and pf_rule. The layers above read records and append answers;
+//! the printer of rules takes the texts of the parts that rules and answers share.
+#![tactic(auto)]
+
+mod field;
+mod head;
+mod values;
+mod words;
+
+pub use field::{Field, PacketFault};
