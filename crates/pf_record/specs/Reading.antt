@@ -34,6 +34,11 @@ abbrev pub behind_first : List ℕ → List (List ℕ) → List (List ℕ)
 behind_first begins [] = []
 behind_first begins (word ∷ words) = if is_some (value_behind begins word) then words else word ∷ words
 
+-- a key's value is taken where its word comes next, and these words are left
+pub record TakesValue (begins : List ℕ) (words : List (List ℕ)) (value : Option (List ℕ)) (rest : List (List ℕ)) : Type 0 where
+  pub taken : value ≡ first_value begins words
+  pub left : rest ≡ behind_first begins words
+
 -- the values of keys, each where its word comes next
 abbrev pub values_in : List (List ℕ) → List (List ℕ) → List (Option (List ℕ))
 values_in [] words = []
@@ -82,10 +87,16 @@ abbrev pub list_of : Values → List (Option (List ℕ))
 list_of v =
     v.sport ∷ v.dport ∷ v.flags ∷ v.icmptype ∷ v.code ∷ v.tos ∷ v.prio ∷ v.user ∷ v.group ∷ v.tag ∷ []
 
+-- the values of keys in a row are taken, and these words are left
+pub record TakesAll (keys words : List (List ℕ)) (values : List (Option (List ℕ))) (rest : List (List ℕ)) : Type 0 where
+  pub taken : values ≡ values_in keys words
+  pub left : rest ≡ rest_behind keys words
+
 -- the values are those of keys in the order of the table, and `extra` says whether more words stand behind them
 pub record AreCut (words : List (List ℕ)) (v : Values) (extra : Bool) : Type 0 where
-  pub values : list_of v ≡ values_in beginnings words
-  pub rest : extra ≡ not (is_empty (rest_behind beginnings words))
+  pub rest : List (List ℕ)
+  pub all : TakesAll beginnings words (list_of v) rest
+  pub more : extra ≡ not (is_empty rest)
 
 -- a value where the protocol has its key, and what holds without it
 abbrev pub value_read : {A : Type 0} → Bool → (List ℕ → Option A) → A → Field → Option (List ℕ) → Result A PacketFault

@@ -1,7 +1,7 @@
 //! The values of a record's keys.
 ghost use Rattle.std.specs.Prelude.{◌≡◌};
 ghost use Rattle.std.specs.Option.{option_copied};
-ghost use Rattle.pf_record.specs.Reading.{AreCut, behind_first, end_fault, fault_in, first_value, value_behind, values_of, words_left};
+ghost use Rattle.pf_record.specs.Reading.{AreCut, TakesValue, end_fault, fault_in, value_behind, values_of, words_left};
 
 use crate::field::{Field, PacketFault};
 use crate::head::next_word;
@@ -31,8 +31,8 @@ fn value_behind<'a>(word: &'a [u8], begins: &[u8]) -> Option<&'a [u8]>
 
 // The value of a key where its word comes next, and the words that are left.
 fn take_value<'a>(left: Option<&'a [u8]>, begins: &[u8]) -> (Option<&'a [u8]>, Option<&'a [u8]>)
-    ensures value { option_copied result.0 ≡ first_value begins.now (words_left (option_copied left.entry)) }
-    ensures rest { words_left (option_copied result.1) ≡ behind_first begins.now (words_left (option_copied left.entry)) }
+    ensures { TakesValue begins.now (words_left (option_copied left.entry)) (option_copied result.0)
+        (words_left (option_copied result.1)) }
 {
     let (Some(word), rest) = next_word(left) else {
         return (None, left);
@@ -58,6 +58,7 @@ impl<'a> KeyValues<'a> {
         let (user, left) = take_value(left, b"user=");
         let (group, left) = take_value(left, b"group=");
         let (tag, left) = take_value(left, b"tag=");
+        let (word, _) = next_word(left);
         KeyValues {
             sport,
             dport,
@@ -69,7 +70,7 @@ impl<'a> KeyValues<'a> {
             user,
             group,
             tag,
-            extra: left.is_some(),
+            extra: word.is_some(),
         }
     }
 

@@ -64,6 +64,7 @@ pub(crate) fn has_types(proto: u8) -> bool
 }
 
 // The bits of one or more letters of flags, in any order.
+#[tactic(auto, unfolding(crate::specs::Words::flags_of))]
 pub(crate) fn flags_of(text: &[u8]) -> Option<u8>
     ensures { result ≡ says.flags_of text.now }
 {
