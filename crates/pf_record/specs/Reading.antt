@@ -1,19 +1,21 @@
 -- How a record is read: its words one after the other, the values of its keys, and then the faults among these.
 use Rattle.std.specs.Prelude.{◌≡◌, ℕ, Bool, true, false, ◌&&◌, not, List, [], ◌∷◌, drop, length, Option, Some, None, Result, Ok, Err, is_some, is_none, if◌then◌else◌, codes, nat_eq}
 use Rattle.std.specs.List.{slice_get, starts_with}
-use Rattle.std.specs.Option.{option_or, option_copied, ok_or}
+use Rattle.std.specs.Option.{option_or, option_and_then, option_copied, ok_or}
 use Rattle.pf_base.specs.Text.{fields_of, is_nothing}
-use Rattle.pf_base.specs.Name.{is_plain_name}
+use Rattle.pf_base.specs.Name.{is_plain_name, plain_name}
+use Rattle.pf_addr.specs.Addr.{SameFamily}
 use Rattle.pf_addr.specs.declared.addr.Addr.{Addr}
 use Rattle.pf_rule.specs.declared.packet.Direction.{Direction}
 use Rattle.pf_record.specs.declared.field.Field.{Field}
 use Rattle.pf_record.specs.declared.field.Field.TheVariants.{Sport, Dport, Flags, Icmptype, Code, Tos, Prio, User, Group, Tag, Extra}
 use Rattle.pf_record.specs.declared.field.PacketFault.{PacketFault}
 use Rattle.pf_record.specs.declared.head.Head.{Head}
+use Rattle.pf_record.specs.declared.head.Start.{Start}
 use Rattle.pf_record.specs.declared.values.KeyValues.{KeyValues}
 use Rattle.pf_record.specs.Keys.{any_proto, is_flags, is_number}
 use Rattle.pf_record.specs.Record.{Values, Writes, fault_of}
-use Rattle.pf_record.specs.Words.{is_tcp, has_ports, has_types}
+use Rattle.pf_record.specs.Words.{direction_of, proto_of, is_tcp, has_ports, has_types}
 
 -- the words of what is left, where something is left
 abbrev pub words_left : Option (List ℕ) → List (List ℕ)
@@ -139,9 +141,27 @@ abbrev pub fault_in : {A : Type 0} → Result A PacketFault → Option Field
 fault_in (Ok value) = None
 fault_in (Err fault) = Some fault.0
 
--- what the first five words are read as
-pub record IsHead (words : List (List ℕ)) (head : Head) : Type 0 where
+-- the first of the words is taken, where there is one, and these are left
+pub record TakesWord (words : List (List ℕ)) (word : Option (List ℕ)) (rest : List (List ℕ)) : Type 0 where
+  pub taken : word ≡ slice_get words 0
+  pub left : rest ≡ drop 1 words
+
+-- what the first five words are read as, and the words behind them
+pub record IsHead (words : List (List ℕ)) (head : Head) (rest : List (List ℕ)) : Type 0 where
+  pub direction : head.direction ≡ option_and_then direction_of (slice_get words 0)
+  pub iface : head.iface ≡ option_and_then plain_name (slice_get words 1)
+  pub proto : head.proto ≡ option_and_then proto_of (slice_get words 2)
   pub source : Writes (slice_get words 3) head.source
   pub target : Writes (slice_get words 4) head.target
   pub source_only : (other : Option Addr) → Writes (slice_get words 3) other → other ≡ head.source
   pub target_only : (other : Option Addr) → Writes (slice_get words 4) other → other ≡ head.target
+  pub left : rest ≡ drop 5 words
+
+-- none of the first five words has a fault, and they say this
+pub record Starts (head : Head) (start : Start) : Type 0 where
+  pub direction : head.direction ≡ Some start.direction
+  pub iface : head.iface ≡ Some start.iface
+  pub proto : head.proto ≡ Some start.proto
+  pub source : head.source ≡ Some start.source
+  pub target : head.target ≡ Some start.target
+  pub one_family : SameFamily start.source start.target

@@ -16,5 +16,5 @@ returns c = record {
       (TakesAll-more c.take_value-8.ensures
       (TakesAll-more c.take_value-9.ensures
       (TakesAll-more c.take_value-10.ensures (TakesAll-none _))))))))));
-  more = c.is_some.ensures ∙ sym (is_some-option_map _ _) ∙ ap is_some c.next_word.ensures.word ∙ is_some-first _;
+  more = c.is_some.ensures ∙ sym (is_some-option_map _ _) ∙ ap is_some c.next_word.ensures.taken ∙ is_some-first _;
 }
