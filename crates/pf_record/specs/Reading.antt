@@ -2,20 +2,21 @@
 use Rattle.std.specs.Prelude.{◌≡◌, ℕ, Bool, true, false, ◌&&◌, not, List, [], ◌∷◌, drop, length, Option, Some, None, Result, Ok, Err, is_some, is_none, if◌then◌else◌, codes, nat_eq}
 use Rattle.std.specs.List.{slice_get, starts_with}
 use Rattle.std.specs.Option.{option_or, option_and_then, option_copied, ok_or}
+use Rattle.pf_base.specs.Decimal.{decimal_of}
 use Rattle.pf_base.specs.Text.{fields_of, is_nothing}
 use Rattle.pf_base.specs.Name.{is_plain_name, plain_name}
 use Rattle.pf_addr.specs.Addr.{SameFamily}
 use Rattle.pf_addr.specs.declared.addr.Addr.{Addr}
 use Rattle.pf_rule.specs.declared.packet.Direction.{Direction}
+use Rattle.pf_rule.specs.declared.packet.Packet.{Packet}
 use Rattle.pf_record.specs.declared.field.Field.{Field}
 use Rattle.pf_record.specs.declared.field.Field.TheVariants.{Sport, Dport, Flags, Icmptype, Code, Tos, Prio, User, Group, Tag, Extra}
 use Rattle.pf_record.specs.declared.field.PacketFault.{PacketFault}
 use Rattle.pf_record.specs.declared.head.Head.{Head}
 use Rattle.pf_record.specs.declared.head.Start.{Start}
 use Rattle.pf_record.specs.declared.values.KeyValues.{KeyValues}
-use Rattle.pf_record.specs.Keys.{any_proto, is_flags, is_number}
-use Rattle.pf_record.specs.Record.{Values, Writes, fault_of}
-use Rattle.pf_record.specs.Words.{direction_of, proto_of, is_tcp, has_ports, has_types}
+use Rattle.pf_record.specs.Record.{Values, Writes, perhaps}
+use Rattle.pf_record.specs.Words.{direction_of, proto_of, is_tcp, has_ports, has_types, flags_of}
 
 -- the words of what is left, where something is left
 abbrev pub words_left : Option (List ℕ) → List (List ℕ)
@@ -105,24 +106,55 @@ abbrev pub value_read : {A : Type 0} → Bool → (List ℕ → Option A) → A 
 value_read has read without field None = Ok without
 value_read has read without field (Some value) = if has then ok_or (read value) (record { 0 = field }) else Err (record { 0 = field })
 
--- the fault of a key that is given
-abbrev pub value_fault : Bool → (List ℕ → Bool) → Field → Option (List ℕ) → Option Field
-value_fault has takes field None = None
-value_fault has takes field (Some value) = if has && takes value then None else Some field
+-- the fault of a result
+abbrev pub fault_in : {A : Type 0} → Result A PacketFault → Option Field
+fault_in (Ok value) = None
+fault_in (Err fault) = Some fault.0
+
+-- what each key says
+abbrev pub sport_read : ℕ → Values → Result (Option ℕ) PacketFault
+sport_read proto v = value_read (has_ports proto) (perhaps (decimal_of 65535)) None Sport v.sport
+
+abbrev pub dport_read : ℕ → Values → Result (Option ℕ) PacketFault
+dport_read proto v = value_read (has_ports proto) (perhaps (decimal_of 65535)) None Dport v.dport
+
+abbrev pub flags_read : ℕ → Values → Result ℕ PacketFault
+flags_read proto v = value_read (is_tcp proto) flags_of 0 Flags v.flags
+
+abbrev pub icmptype_read : ℕ → Values → Result (Option ℕ) PacketFault
+icmptype_read proto v = value_read (has_types proto) (perhaps (decimal_of 255)) None Icmptype v.icmptype
+
+abbrev pub code_read : ℕ → Values → Result (Option ℕ) PacketFault
+code_read proto v = value_read (has_types proto) (perhaps (decimal_of 255)) None Code v.code
+
+abbrev pub tos_read : Values → Result ℕ PacketFault
+tos_read v = value_read true (decimal_of 255) 0 Tos v.tos
+
+abbrev pub prio_read : Values → Result ℕ PacketFault
+prio_read v = value_read true (decimal_of 7) 3 Prio v.prio
+
+abbrev pub user_read : ℕ → Values → Result (Option ℕ) PacketFault
+user_read proto v = value_read (has_ports proto) (perhaps (decimal_of 4294967295)) None User v.user
+
+abbrev pub group_read : ℕ → Values → Result (Option ℕ) PacketFault
+group_read proto v = value_read (has_ports proto) (perhaps (decimal_of 4294967295)) None Group v.group
+
+abbrev pub tag_read : Values → Result (Option (List ℕ)) PacketFault
+tag_read v = value_read true (perhaps plain_name) None Tag v.tag
 
 -- the first fault of the keys that are given
 unfoldable pub values_fault : ℕ → Values → Option Field
 values_fault proto v =
-    option_or (value_fault (has_ports proto) (is_number 65535) Sport v.sport)
-    (option_or (value_fault (has_ports proto) (is_number 65535) Dport v.dport)
-    (option_or (value_fault (is_tcp proto) is_flags Flags v.flags)
-    (option_or (value_fault (has_types proto) (is_number 255) Icmptype v.icmptype)
-    (option_or (value_fault (has_types proto) (is_number 255) Code v.code)
-    (option_or (value_fault (any_proto proto) (is_number 255) Tos v.tos)
-    (option_or (value_fault (any_proto proto) (is_number 7) Prio v.prio)
-    (option_or (value_fault (has_ports proto) (is_number 4294967295) User v.user)
-    (option_or (value_fault (has_ports proto) (is_number 4294967295) Group v.group)
-    (value_fault (any_proto proto) is_plain_name Tag v.tag)))))))))
+    option_or (fault_in (sport_read proto v))
+    (option_or (fault_in (dport_read proto v))
+    (option_or (fault_in (flags_read proto v))
+    (option_or (fault_in (icmptype_read proto v))
+    (option_or (fault_in (code_read proto v))
+    (option_or (fault_in (tos_read v))
+    (option_or (fault_in (prio_read v))
+    (option_or (fault_in (user_read proto v))
+    (option_or (fault_in (group_read proto v))
+    (fault_in (tag_read v))))))))))
 
 -- a key that has to be given
 abbrev pub lacks : Bool → Field → Option (List ℕ) → Option Field
@@ -136,10 +168,28 @@ end_fault proto v extra =
     (option_or (lacks (has_ports proto) Dport v.dport)
     (option_or (lacks (has_types proto) Icmptype v.icmptype) (lacks (has_types proto) Code v.code)))
 
--- the fault of a result
-abbrev pub fault_in : {A : Type 0} → Result A PacketFault → Option Field
-fault_in (Ok value) = None
-fault_in (Err fault) = Some fault.0
+-- the packet's fields are what the keys say
+pub record AreRead (proto : ℕ) (v : Values) (p : Packet) : Type 0 where
+  pub sport : sport_read proto v ≡ Ok p.source_port
+  pub dport : dport_read proto v ≡ Ok p.target_port
+  pub flags : flags_read proto v ≡ Ok p.flags
+  pub icmptype : icmptype_read proto v ≡ Ok p.icmp_type
+  pub code : code_read proto v ≡ Ok p.icmp_code
+  pub tos : tos_read v ≡ Ok p.tos
+  pub prio : prio_read v ≡ Ok p.prio
+  pub user : user_read proto v ≡ Ok p.user
+  pub group : group_read proto v ≡ Ok p.group
+  pub tag : tag_read v ≡ Ok p.tag
+
+-- the packet has what its record's first words say, and what the keys say, and no key is missing
+pub record IsPacketOf (start : Start) (v : Values) (extra : Bool) (p : Packet) : Type 0 where
+  pub direction : p.direction ≡ start.direction
+  pub iface : p.iface ≡ start.iface
+  pub proto : p.proto ≡ start.proto
+  pub source : p.source ≡ start.source
+  pub target : p.target ≡ start.target
+  pub keys : AreRead start.proto v p
+  pub ended : end_fault start.proto v extra ≡ None
 
 -- the first of the words is taken, where there is one, and these are left
 pub record TakesWord (words : List (List ℕ)) (word : Option (List ℕ)) (rest : List (List ℕ)) : Type 0 where

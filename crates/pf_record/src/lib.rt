@@ -5,6 +5,7 @@
 
 mod field;
 mod head;
+mod said;
 mod values;
 mod words;
 
