@@ -1,2 +1,6 @@
+pub mod FaultLemmas
+pub mod GivenLemmas
 pub mod KeyLemmas
+pub mod OneReading
+pub mod SaidLemmas
 pub mod WordLemmas

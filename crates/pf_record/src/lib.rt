@@ -5,8 +5,10 @@
 
 mod field;
 mod head;
+mod record;
 mod said;
 mod values;
 mod words;
 
 pub use field::{Field, PacketFault};
+pub use record::read_packet;

@@ -8,6 +8,7 @@ use crate::head::next_word;
 use crate::words::{has_ports, has_types};
 
 /// The values of the keys that are given in the order of the table, and whether more words stand behind them.
+#[derive(Clone, Copy)]
 pub(crate) struct KeyValues<'a> {
     pub(crate) sport: Option<&'a [u8]>,
     pub(crate) dport: Option<&'a [u8]>,
