@@ -2,5 +2,6 @@ pub mod FaultLemmas
 pub mod GivenLemmas
 pub mod KeyLemmas
 pub mod OneReading
+pub mod ReadLemmas
 pub mod SaidLemmas
 pub mod WordLemmas
