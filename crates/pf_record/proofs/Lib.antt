@@ -1,3 +1,4 @@
+pub mod Extending
 pub mod FaultLemmas
 pub mod GivenLemmas
 pub mod KeyLemmas

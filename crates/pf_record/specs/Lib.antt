@@ -1,4 +1,5 @@
 pub mod AnswerText
+pub mod Appending
 pub mod FieldName
 pub mod Keys
 pub mod NameText

@@ -7,6 +7,7 @@ mod field;
 mod head;
 mod record;
 mod said;
+mod text;
 mod values;
 mod words;
 
