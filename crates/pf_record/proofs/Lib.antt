@@ -1,4 +1,4 @@
-pub mod Extending
+pub mod BracketLemmas
 pub mod FaultLemmas
 pub mod GivenLemmas
 pub mod KeyLemmas

@@ -1,6 +1,7 @@
 pub mod AnswerText
 pub mod Appending
 pub mod FieldName
+pub mod Items
 pub mod Keys
 pub mod NameText
 pub mod ParamText

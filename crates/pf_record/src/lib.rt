@@ -5,6 +5,7 @@
 
 mod field;
 mod head;
+mod item;
 mod record;
 mod said;
 mod text;
