@@ -6,11 +6,17 @@
 mod field;
 mod head;
 mod item;
+mod params;
 mod record;
 mod said;
+mod state;
 mod text;
 mod values;
 mod words;
 
 pub use field::{Field, PacketFault};
+pub use params::{
+    put_allow_opts, put_label, put_log, put_prio, put_queue, put_scrub, put_tag, put_tos,
+};
 pub use record::read_packet;
+pub use state::put_state;
