@@ -1,6 +1,7 @@
 pub mod BracketLemmas
 pub mod FaultLemmas
 pub mod GivenLemmas
+pub mod JoinLemmas
 pub mod KeyLemmas
 pub mod OneReading
 pub mod ReadLemmas

@@ -5,7 +5,7 @@ ghost use Rattle.pf_record.specs.Items.{item_text, part_of, spaced};
 ghost use Rattle.pf_record.specs.Parts.{in_brackets, with_number, word_if};
 ghost use Rattle.pf_record.specs.StateText.{flush_text, overload_text, rate_text};
 
-use crate::text::{put, put_name, put_number};
+use crate::text::{put, put_named, put_numbered};
 use pf_base::{Name, NoMemory};
 use pf_rule::{Flush, Overload, Rate};
 
@@ -41,10 +41,8 @@ fn put_rate(out: &mut Vec<u8>, rate: &Rate) -> Result<(), NoMemory>
     ensures ok { OnOk result (out.new.items ≡ out.old.items ++ rate_text rate.now) }
     ensures kept { Extends out.old.items out.new.items }
 {
-    put(out, b"max-src-conn-rate ")?;
-    put_number(out, rate.count)?;
-    put(out, b"/")?;
-    put_number(out, rate.seconds)?;
+    put_numbered(out, b"max-src-conn-rate ", rate.count)?;
+    put_numbered(out, b"/", rate.seconds)?;
     Ok(())
 }
 
@@ -77,13 +75,11 @@ fn put_item(out: &mut Vec<u8>, item: &Item) -> Result<(), NoMemory>
         Item::Word(word) => put(out, word)?,
         Item::Number(word, number) => {
             put(out, word)?;
-            put(out, b" ")?;
-            put_number(out, *number)?;
+            put_numbered(out, b" ", *number)?;
         }
         Item::Named(word, name) => {
             put(out, word)?;
-            put(out, b" ")?;
-            put_name(out, name)?;
+            put_named(out, b" ", name)?;
         }
         Item::PerSeconds(rate) => put_rate(out, rate)?,
         Item::Table(overload) => put_overload(out, overload)?,

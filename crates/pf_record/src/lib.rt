@@ -3,6 +3,7 @@
 //! the printer of rules takes the texts of the parts that rules and answers share.
 #![tactic(auto)]
 
+mod answer;
 mod field;
 mod head;
 mod item;
@@ -14,6 +15,7 @@ mod text;
 mod values;
 mod words;
 
+pub use answer::{put_answer, put_block_kind};
 pub use field::{Field, PacketFault};
 pub use params::{
     put_allow_opts, put_label, put_log, put_prio, put_queue, put_scrub, put_tag, put_tos,

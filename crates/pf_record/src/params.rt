@@ -10,7 +10,7 @@ ghost use Rattle.pf_record.specs.ParamText.{label_text, log_parts, log_text, pri
 ghost use Rattle.pf_record.specs.Parts.{with_number, with_pair, word_if};
 
 use crate::item::{Item, number_item, put_in_brackets, word_item};
-use crate::text::{put, put_name, put_number, put_quoted};
+use crate::text::{put, put_named, put_numbered, put_quoted};
 use pf_base::{Name, NoMemory};
 use pf_rule::{Log, Prios, Queues, Scrub};
 
@@ -55,8 +55,7 @@ pub fn put_tag(out: &mut Vec<u8>, tag: &Option<Name>) -> Result<(), NoMemory>
     ensures kept { Extends out.old.items out.new.items }
 {
     if let Some(tag) = tag {
-        put(out, b" tag ")?;
-        put_name(out, tag)?;
+        put_named(out, b" tag ", tag)?;
     }
     Ok(())
 }
@@ -68,15 +67,10 @@ fn put_queues(out: &mut Vec<u8>, queues: &Queues) -> Result<(), NoMemory>
     ensures kept { Extends out.old.items out.new.items }
 {
     match &queues.second {
-        None => {
-            put(out, b"queue ")?;
-            put_name(out, &queues.first)?;
-        }
+        None => put_named(out, b"queue ", &queues.first)?,
         Some(second) => {
-            put(out, b"queue (")?;
-            put_name(out, &queues.first)?;
-            put(out, b", ")?;
-            put_name(out, second)?;
+            put_named(out, b"queue (", &queues.first)?;
+            put_named(out, b", ", second)?;
             put(out, b")")?;
         }
     }
@@ -102,15 +96,10 @@ fn put_prios(out: &mut Vec<u8>, prios: Prios) -> Result<(), NoMemory>
     ensures kept { Extends out.old.items out.new.items }
 {
     match prios.second {
-        None => {
-            put(out, b"prio ")?;
-            put_number(out, u32::from(prios.first))?;
-        }
+        None => put_numbered(out, b"prio ", u32::from(prios.first))?,
         Some(second) => {
-            put(out, b"prio (")?;
-            put_number(out, u32::from(prios.first))?;
-            put(out, b", ")?;
-            put_number(out, u32::from(second))?;
+            put_numbered(out, b"prio (", u32::from(prios.first))?;
+            put_numbered(out, b", ", u32::from(second))?;
             put(out, b")")?;
         }
     }
@@ -135,8 +124,7 @@ pub fn put_tos(out: &mut Vec<u8>, tos: Option<u8>) -> Result<(), NoMemory>
     ensures kept { Extends out.old.items out.new.items }
 {
     if let Some(tos) = tos {
-        put(out, b" tos ")?;
-        put_number(out, u32::from(tos))?;
+        put_numbered(out, b" tos ", u32::from(tos))?;
     }
     Ok(())
 }

@@ -81,3 +81,23 @@ pub(crate) fn put_name(out: &mut Vec<u8>, name: &Name) -> Result<(), NoMemory>
     }
     Ok(())
 }
+
+/// Appends these bytes and a name.
+pub(crate) fn put_named(out: &mut Vec<u8>, before: &[u8], name: &Name) -> Result<(), NoMemory>
+    ensures ok { OnOk result (out.new.items ≡ out.old.items ++ (before.now ++ names.name_text name.now)) }
+    ensures kept { Extends out.old.items out.new.items }
+{
+    put(out, before)?;
+    put_name(out, name)?;
+    Ok(())
+}
+
+/// Appends these bytes and a number in decimal.
+pub(crate) fn put_numbered(out: &mut Vec<u8>, before: &[u8], number: u32) -> Result<(), NoMemory>
+    ensures ok { OnOk result (out.new.items ≡ out.old.items ++ (before.now ++ decimal number)) }
+    ensures kept { Extends out.old.items out.new.items }
+{
+    put(out, before)?;
+    put_number(out, number)?;
+    Ok(())
+}

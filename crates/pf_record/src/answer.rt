@@ -1,0 +1,172 @@
+//! The text of an answer.
+ghost use Rattle.std.specs.Prelude.{◌≡◌, ◌++◌, IsTrue, OnErr, OnOk, codes};
+ghost use Rattle.std.specs.Option.{option_map};
+ghost use Rattle.pf_record.specs.Appending.{Extends};
+ghost use Rattle.pf_record.specs.AnswerText.{answer_parts, answer_text, block_text, is_decided};
+ghost use Rattle.pf_record.specs.Items.{spaced};
+ghost use Rattle.pf_record.specs.ParamText.{log_text, prio_text, queue_text, scrub_text, tag_text};
+ghost use Rattle.pf_record.specs.Parts.{joined, with_number, word_if};
+ghost use Rattle.pf_record.specs.StateText.{state_text};
+
+use crate::params::{
+    put_allow_opts, put_label, put_log, put_prio, put_queue, put_scrub, put_tag, put_tos,
+};
+use crate::state::put_state;
+use crate::text::{put, put_numbered};
+use pf_base::{Name, NoMemory};
+use pf_rule::{Action, Answer, BlockKind, Decision, Log, Params};
+
+// `return-rst`, with a ttl that isn't 0.
+#[tactic(auto, unfolding(crate::specs::AnswerText::block_text))]
+fn put_reset(out: &mut Vec<u8>, ttl: u8) -> Result<(), NoMemory>
+    ensures ok { OnOk result (out.new.items ≡ out.old.items ++ block_text (BlockKind.Rst ttl)) }
+    ensures kept { Extends out.old.items out.new.items }
+{
+    if ttl == 0 {
+        put(out, b"return-rst")?;
+    } else {
+        put_numbered(out, b"return-rst (ttl ", u32::from(ttl))?;
+        put(out, b")")?;
+    }
+    Ok(())
+}
+
+// `return-icmp` with both codes.
+fn put_icmp(out: &mut Vec<u8>, code: u8, code6: u8) -> Result<(), NoMemory>
+    ensures ok { OnOk result (out.new.items ≡ out.old.items ++ block_text (BlockKind.Icmp code code6)) }
+    ensures kept { Extends out.old.items out.new.items }
+{
+    put_numbered(out, b"return-icmp (", u32::from(code))?;
+    put_numbered(out, b", ", u32::from(code6))?;
+    put(out, b")")?;
+    Ok(())
+}
+
+/// Appends what the sender of a blocked packet is told: `drop`, `return`, `return-rst` with the ttl where
+/// it isn't 0, or `return-icmp` with both codes. Without memory a front of this may be appended.
+#[tactic(auto, unfolding(crate::specs::AnswerText::block_text))]
+pub fn put_block_kind(out: &mut Vec<u8>, kind: BlockKind) -> Result<(), NoMemory>
+    ensures ok { OnOk result (out.new.items ≡ out.old.items ++ block_text kind) }
+    ensures kept { Extends out.old.items out.new.items }
+{
+    match kind {
+        BlockKind::Drop => put(out, b"drop")?,
+        BlockKind::Return => put(out, b"return")?,
+        BlockKind::Rst { ttl } => put_reset(out, ttl)?,
+        BlockKind::Icmp { code, code6 } => put_icmp(out, code, code6)?,
+    }
+    Ok(())
+}
+
+fn put_passed(out: &mut Vec<u8>, decision: &Decision) -> Result<(), NoMemory>
+    ensures ok { OnOk result (out.new.items ≡ out.old.items ++ (codes "pass " ++ state_text decision.now.state decision.now.options)) }
+    ensures kept { Extends out.old.items out.new.items }
+{
+    put(out, b"pass ")?;
+    put_state(out, decision.state, &decision.options)?;
+    Ok(())
+}
+
+fn put_blocked(out: &mut Vec<u8>, kind: BlockKind) -> Result<(), NoMemory>
+    ensures ok { OnOk result (out.new.items ≡ out.old.items ++ (codes "block " ++ block_text kind)) }
+    ensures kept { Extends out.old.items out.new.items }
+{
+    put(out, b"block ")?;
+    put_block_kind(out, kind)?;
+    Ok(())
+}
+
+fn put_log_and_tag(out: &mut Vec<u8>, log: &Log, tag: &Option<Name>) -> Result<(), NoMemory>
+    ensures ok { OnOk result (out.new.items
+        ≡ out.old.items ++ (spaced (log_text log.now) ++ spaced (option_map tag_text tag.now))) }
+    ensures kept { Extends out.old.items out.new.items }
+{
+    put_log(out, log)?;
+    put_tag(out, tag)?;
+    Ok(())
+}
+
+// What a rule sets: the queue, the priority and the type of service.
+fn put_set(out: &mut Vec<u8>, params: &Params) -> Result<(), NoMemory>
+    ensures ok { OnOk result (out.new.items ≡ out.old.items ++ (spaced (option_map queue_text params.now.queue)
+        ++ spaced (option_map prio_text params.now.prio) ++ spaced (with_number (codes "tos") params.now.tos))) }
+    ensures kept { Extends out.old.items out.new.items }
+{
+    put_queue(out, &params.queue)?;
+    put_prio(out, params.prio)?;
+    put_tos(out, params.tos)?;
+    Ok(())
+}
+
+// How a packet is normalised, and whether it may have IP options.
+fn put_normal(out: &mut Vec<u8>, params: &Params) -> Result<(), NoMemory>
+    ensures ok { OnOk result (out.new.items
+        ≡ out.old.items ++ (spaced (scrub_text params.now.scrub) ++ spaced (word_if params.now.allow_opts (codes "allow-opts")))) }
+    ensures kept { Extends out.old.items out.new.items }
+{
+    put_scrub(out, &params.scrub)?;
+    put_allow_opts(out, params.allow_opts)?;
+    Ok(())
+}
+
+fn append_pass(out: &mut Vec<u8>, tag: &Option<Name>, decision: &Decision) -> Result<(), NoMemory>
+    ensures ok { OnOk result (out.new.items
+        ≡ out.old.items ++ joined (codes " ") (answer_parts Action.Pass tag.now decision.now)) }
+    ensures kept { Extends out.old.items out.new.items }
+{
+    put_passed(out, decision)?;
+    put_log_and_tag(out, &decision.params.log, tag)?;
+    put_set(out, &decision.params)?;
+    put_normal(out, &decision.params)?;
+    put_label(out, &decision.label)?;
+    Ok(())
+}
+
+fn append_block(
+    out: &mut Vec<u8>,
+    kind: BlockKind,
+    tag: &Option<Name>,
+    decision: &Decision,
+) -> Result<(), NoMemory>
+    ensures ok { OnOk result (out.new.items
+        ≡ out.old.items ++ joined (codes " ") (answer_parts (Action.Block kind) tag.now decision.now)) }
+    ensures kept { Extends out.old.items out.new.items }
+{
+    put_blocked(out, kind)?;
+    put_log_and_tag(out, &decision.params.log, tag)?;
+    put_label(out, &decision.label)?;
+    Ok(())
+}
+
+#[tactic(auto, unfolding(crate::specs::AnswerText::answer_text))]
+fn append_answer(out: &mut Vec<u8>, answer: &Answer) -> Result<(), NoMemory>
+    requires { IsTrue (is_decided answer.now.decision.action) }
+    ensures ok { OnOk result (out.new.items ≡ out.old.items ++ answer_text answer.now) }
+    ensures kept { Extends out.old.items out.new.items }
+{
+    if answer.skip {
+        put(out, b"skip")?;
+        return Ok(());
+    }
+    match answer.decision.action {
+        Action::Pass => append_pass(out, &answer.tag, &answer.decision)?,
+        Action::Block(kind) => append_block(out, kind, &answer.tag, &answer.decision)?,
+        Action::Match | Action::Anchor(_) => unreachable!(),
+    }
+    Ok(())
+}
+
+/// Appends the answer's text: `skip`, or `pass` with its state or `block` with its kind, and then what else
+/// stands in it, with single spaces. Without memory `out` is as before.
+pub fn put_answer(out: &mut Vec<u8>, answer: &Answer) -> Result<(), NoMemory>
+    requires { IsTrue (is_decided answer.now.decision.action) }
+    ensures ok { OnOk result (out.new.items ≡ out.old.items ++ answer_text answer.now) }
+    ensures err { OnErr result (out.new.items ≡ out.old.items) }
+{
+    let before = out.len();
+    let appended = append_answer(out, answer);
+    if appended.is_err() {
+        out.truncate(before);
+    }
+    appended
+}
