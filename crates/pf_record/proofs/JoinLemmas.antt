@@ -1,7 +1,8 @@
 -- The parts of an answer, one appended behind the other.
 use Rattle.std.proofs.Common.{◌≡◌, ℕ, List, [], ◌∷◌, ◌++◌, Option, Some, None, codes, refl, ap, sym, ◌∙◌, append_assoc, take, length}
 use Rattle.std.specs.List.{filter_map, flat_map}
-use Rattle.std.proofs.lemmas.List.{append-nil, take-append_seam}
+use Rattle.std.proofs.Math.Seq.{take-append_seam}
+use Rattle.std.proofs.lemmas.List.{append-nil}
 use Rattle.pf_record.specs.Appending.{Extends}
 use Rattle.pf_record.specs.Items.{spaced}
 use Rattle.pf_record.specs.Parts.{joined}
@@ -30,3 +31,10 @@ block_joined old a b new first log tag label ha hb h =
 -- what stood in front before
 pub take-Extends : (old new : List ℕ) → Extends old new → take (length old) new ≡ old
 take-Extends old new h = ap (take (length old)) h.joined ∙ take-append_seam old h.more
+
+-- a buffer that is appended to again
+pub Extends-then : {old mid new : List ℕ} → Extends old mid → Extends mid new → Extends old new
+Extends-then {old} h g = record {
+  more = h.more ++ g.more;
+  joined = g.joined ∙ ap (λ (t : List ℕ). t ++ g.more) h.joined ∙ append_assoc old h.more g.more;
+}
