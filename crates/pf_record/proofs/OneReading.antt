@@ -176,12 +176,12 @@ no_fault words p fault one_source one_target h g =
     let source = one_source _ _ g.source_said h.source in
     let target = one_target _ _ g.target_said h.target in
     let none : keys_fault p.proto (drop 5 words) ≡ None =
-        keys_fault-values p.proto (drop 5 words) h.values false h.cut
-        ∙ ap (λ (f : Option Field). option_or f (end_fault p.proto h.values false)) (values_fault-read p.proto h.values p h.keys)
-        ∙ h.ended in
+    keys_fault-values p.proto (drop 5 words) h.values false h.cut
+    ∙ ap (λ (f : Option Field). option_or f (end_fault p.proto h.values false)) (values_fault-read p.proto h.values p h.keys)
+    ∙ h.ended in
     let first = g.first in
     let bad : None ≡ Some fault =
-        sym (rw (h.direction, h.iface, h.proto, source, target, eq-eqb _ _ h.one_family, none) refl) ∙ first in
+    sym (rw (h.direction, h.iface, h.proto, source, target, eq-eqb _ _ h.one_family, none) refl) ∙ first in
     absurd cc
 
 one_fault : (words : List (List ℕ)) (a b : Field) → IsOne (slice_get words 3) → IsOne (slice_get words 4) → IsFaulty words a → IsFaulty words b → a ≡ b

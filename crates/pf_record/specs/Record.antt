@@ -121,8 +121,8 @@ pub record IsFaulty (words : List (List ℕ)) (fault : Field) : Type 0 where
   pub source_said : Writes (slice_get words 3) source
   pub target_said : Writes (slice_get words 4) target
   pub first :
-    fault_of (option_and_then direction_of (slice_get words 0)) (option_and_then plain_name (slice_get words 1))
-    (option_and_then proto_of (slice_get words 2)) source target (drop 5 words) ≡ Some fault
+      fault_of (option_and_then direction_of (slice_get words 0)) (option_and_then plain_name (slice_get words 1))
+      (option_and_then proto_of (slice_get words 2)) source target (drop 5 words) ≡ Some fault
 
 -- what the text of a record is read as
 abbrev pub IsReadAs : List ℕ → Result Packet PacketFault → Type 0

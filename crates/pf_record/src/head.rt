@@ -81,7 +81,7 @@ impl Head {
         ensures starts { IfOk result (Starts self.now) }
         ensures fault { IfErr result (λ fault. (words : List (List ℕ))
             → fault_of self.now.direction self.now.iface self.now.proto self.now.source self.now.target words
-                ≡ Some fault.0) }
+            ≡ Some fault.0) }
     {
         let direction = self.direction.ok_or(PacketFault(Field::Direction))?;
         let iface = self.iface.ok_or(PacketFault(Field::Interface))?;

@@ -22,3 +22,6 @@ pub use params::{
 };
 pub use record::read_packet;
 pub use state::put_state;
+
+#[cfg(test)]
+mod tests;

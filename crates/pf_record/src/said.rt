@@ -27,6 +27,7 @@ const MOST_PRIO: u32 = 7;
 
 // The type of service and the priority of a packet whose record gives none.
 const PLAIN_TOS: u8 = 0;
+
 const PLAIN_PRIO: u8 = 3;
 
 // A number to `most` of a key that the protocol has, or nothing where the key isn't given.
@@ -70,12 +71,7 @@ fn byte(value: Option<&[u8]>, has: bool, field: Field) -> Result<Option<u8>, Pac
 }
 
 // A number to `most` of a key that each protocol has, or `without` where the key isn't given.
-fn byte_or(
-    value: Option<&[u8]>,
-    most: u32,
-    without: u8,
-    field: Field,
-) -> Result<u8, PacketFault>
+fn byte_or(value: Option<&[u8]>, most: u32, without: u8, field: Field) -> Result<u8, PacketFault>
     requires { most ≤ MOST_BYTE }
     ensures { result ≡ value_read true (decimal_of most) without field (option_copied value.entry) }
 {
