@@ -137,7 +137,12 @@ impl Reads {
     /// Reads a whole file of at most 4,194,304 bytes and at most the bytes that are left, which it takes. A new name
     /// gets the next number. `Failed` comes only where the files' count of faults rose, and changes nothing;
     /// `TooLarge` where the file is longer: its name has its number, and nothing is taken.
-    pub fn read<F: Files>(&mut self, alloc: Global, files: &mut F, name: &Text) -> Result<ReadFile, ReadsFault>
+    pub fn read<F: Files>(
+        &mut self,
+        alloc: Global,
+        files: &mut F,
+        name: &Text,
+    ) -> Result<ReadFile, ReadsFault>
         ensures look { Told (F.tells files.old).held (λ held. IsLook (look_up (file_of held) self.old name.now) result) }
         ensures after { self.new ≡ after_answer self.old name.now result }
         ensures number { IfNumbered (number_of self.old.names name.now) result }
