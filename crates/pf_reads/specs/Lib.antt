@@ -1,2 +1,0 @@
-pub mod ReadSoFar
-pub mod Reads
