@@ -1,1 +1,4 @@
+pub mod Decisions
+pub mod Effects
+pub mod Founds
 pub mod Walks

@@ -47,6 +47,7 @@ pub fn evaluate<M: Members, I: Ifaces, L>(
 }
 
 // Tests a rule, and does what it does where it hits.
+#[tactic(auto, using(crate::proofs::Effects::anchor_rests))]
 fn take<M: Members, I: Ifaces, L>(
     rule: &Rule,
     walk: &mut Walk,

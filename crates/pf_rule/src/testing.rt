@@ -45,6 +45,7 @@ const TARGET: u8 = 6;
 const TARGET_PORT: u8 = 7;
 
 /// Tests a rule at a walk, which is counted (pf.conf(5), PARAMETERS).
+#[tactic(auto, using(crate::proofs::Founds::hits_failing, crate::proofs::Founds::hits_others, crate::proofs::Founds::tested_hit, crate::proofs::Founds::tested_missed))]
 pub fn hit<M: Members, I: Ifaces, L>(
     rule: &Rule,
     walk: &Walk,
@@ -79,6 +80,7 @@ pub fn hit<M: Members, I: Ifaces, L>(
 }
 
 // The number of the first skip field whose test fails.
+#[tactic(auto, using(crate::proofs::Founds::passed, crate::proofs::Founds::failed), unfolding(crate::specs::Hit::failing_field))]
 fn failing_field<M: Members, I: Ifaces>(
     criteria: &Criteria,
     packet: &Packet,
