@@ -40,11 +40,12 @@ none_behind : (around : Around) (rule : Rule) (rules : List Rule) (walk : Walk) 
     → NoneDecides around (rule ∷ rules) walk → NoneDecides around rules (walked_one around rule walk)
 none_behind around rule rules walk going none =
     λ front back later e d.
-      let same : walked around (rule ∷ front) walk ≡ walked around front (walked_one around rule walk) = walked_on around rule front walk going in
-      none (rule ∷ front) back later (ap (λ rs. rule ∷ rs) e) (record {
-        decides = d.decides;
-        reached = ap (λ (w : Walk). w.stop) same ∙ d.reached;
-        hit = ap (hits_at around later) same ∙ d.hit })
+    let same : walked around (rule ∷ front) walk ≡ walked around front (walked_one around rule walk) = walked_on around rule front walk going in
+    none (rule ∷ front) back later (ap (λ rs. rule ∷ rs) e) (record {
+      decides = d.decides;
+      reached = ap (λ (w : Walk). w.stop) same ∙ d.reached;
+      hit = ap (hits_at around later) same ∙ d.hit;
+    })
 
 -- a rule that doesn't decide leaves the decision
 passed_last : (hit deciding : Bool) (around : Around) (rule : Rule) (walk : Walk)
@@ -59,12 +60,12 @@ passed_last true true around rule walk is_hit is_decided none = absurd (none (re
 pub none_last : (around : Around) (rules : List Rule) (walk : Walk) → NoneDecides around rules walk → (walked around rules walk).last ≡ walk.last
 none_last around [] walk none = refl
 none_last around (rule ∷ rules) walk none =
-    elim walk.stop as (λ b. walk.stop ≡ b → (cond b walk (walked around rules (walked_one around rule walk))).last ≡ walk.last)
-    [ true ↦ (λ stopped. refl)
-    | false ↦ (λ going.
-        none_last around rules (walked_one around rule walk) (none_behind around rule rules walk going none)
-        ∙ passed_last (hits_at around rule walk) (is_deciding rule.effect.action) around rule walk refl refl
-            (λ both. none [] rules rule refl (record { decides = both.1; reached = going; hit = both.0 })))
+    elim walk.stop as (λ b. walk.stop ≡ b → (cond b walk (walked around rules (walked_one around rule walk))).last ≡ walk.last) [
+      | true ↦ (λ stopped. refl)
+      | false ↦ (λ going.
+          none_last around rules (walked_one around rule walk) (none_behind around rule rules walk going none)
+          ∙ passed_last (hits_at around rule walk) (is_deciding rule.effect.action) around rule walk refl refl
+          (λ both. none [] rules rule refl (record { decides = both.1; reached = going; hit = both.0 })))
     ] refl
 
 -- a walk through a list is one through its back after one through its front
@@ -80,9 +81,9 @@ pub quick_walk : (around : Around) (front : List Rule) (rule : Rule) (back : Lis
 quick_walk around front rule back walk d quick =
     let end : Walk = walked around (front ++ rule ∷ []) walk in
     let stopped : end.stop ≡ true =
-        ap (λ (w : Walk). w.stop) (decided_walk around front rule walk d)
-        ∙ (quick_stops rule.effect (walked around front walk) d.decides
-        ∙ (ap (λ b. b || rule.effect.quick) d.reached ∙ quick)) in
+    ap (λ (w : Walk). w.stop) (decided_walk around front rule walk d)
+    ∙ (quick_stops rule.effect (walked around front walk) d.decides
+    ∙ (ap (λ b. b || rule.effect.quick) d.reached ∙ quick)) in
     parted around front rule back walk ∙ walked_stopped around back end stopped
 
 -- what a rule that decides has decided

@@ -26,11 +26,12 @@ is_deciding (Anchor call) = false
 -- what a pass or block rule decides
 abbrev pub decision_of : Effect → Decision
 decision_of effect = record {
-    action = effect.action;
-    state = effect.state;
-    options = effect.options;
-    params = effect.params;
-    label = effect.label }
+  action = effect.action;
+  state = effect.state;
+  options = effect.options;
+  params = effect.params;
+  label = effect.label;
+}
 
 -- a tag of the rule becomes the packet's, and `quick` ends the walk
 abbrev pub tagged_on : Effect → Walk → Walk

@@ -1,5 +1,5 @@
 -- The walk of a packet through a list of rules, in order (pf.conf(5), PACKET FILTERING).
-use Rattle.std.specs.Prelude.{List, [], ◌∷◌, if◌then◌else◌}
+use Rattle.std.specs.Prelude.{ℕ, ◌+◌, List, [], ◌∷◌, if◌then◌else◌}
 use Rattle.pf_rule.specs.Around.{Around}
 use Rattle.pf_rule.specs.Effect.{effect_on}
 use Rattle.pf_rule.specs.Hit.{hits_at}
@@ -14,3 +14,8 @@ walked_one around rule walk = if hits_at around rule walk then effect_on rule.ef
 abbrev pub walked : Around → List Rule → Walk → Walk
 walked around [] walk = walk
 walked around (rule ∷ rules) walk = if walk.stop then walk else walked around rules (walked_one around rule walk)
+
+-- how many rules of the list the walk reaches
+abbrev pub reached : Around → List Rule → Walk → ℕ
+reached around [] walk = 0
+reached around (rule ∷ rules) walk = if walk.stop then 0 else 1 + reached around rules (walked_one around rule walk)

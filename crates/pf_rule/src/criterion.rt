@@ -70,9 +70,7 @@ pub(crate) fn address_holds<M: Members, I: Ifaces>(
     members: &M,
     ifaces: &I,
 ) -> bool
-    ensures {
-        result ≡ address_holds (around_by (M.member members.now) (I.in_group ifaces.now) (I.dynamic ifaces.now)) test.now addr.now
-    }
+    ensures { result ≡ address_holds (around_by (M.member members.now) (I.in_group ifaces.now) (I.dynamic ifaces.now)) test.now addr.now }
 {
     match test {
         AddrTest::Any => true,
@@ -81,9 +79,7 @@ pub(crate) fn address_holds<M: Members, I: Ifaces>(
 }
 
 fn in_set<M: Members, I: Ifaces>(what: &AddrSet, addr: &Addr, members: &M, ifaces: &I) -> bool
-    ensures {
-        result ≡ in_set (around_by (M.member members.now) (I.in_group ifaces.now) (I.dynamic ifaces.now)) what.now addr.now
-    }
+    ensures { result ≡ in_set (around_by (M.member members.now) (I.in_group ifaces.now) (I.dynamic ifaces.now)) what.now addr.now }
 {
     match what {
         AddrSet::Prefix(prefix) => prefix.contains(addr),
@@ -133,9 +129,7 @@ pub(crate) fn icmp_holds(criteria: &Criteria, packet: &Packet) -> bool
 {
     match &criteria.icmp {
         None => true,
-        Some(test) => {
-            (packet.proto == ICMP || packet.proto == ICMP6) && same_type(test, packet)
-        }
+        Some(test) => { (packet.proto == ICMP || packet.proto == ICMP6) && same_type(test, packet) }
     }
 }
 

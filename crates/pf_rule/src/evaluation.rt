@@ -5,7 +5,7 @@ ghost use Rattle.pf_rule.specs.Around.{Around as Outside, around_by};
 ghost use Rattle.pf_rule.specs.Deciding.{Decides, NoneDecides};
 ghost use Rattle.pf_rule.specs.Effect.{decision_of};
 ghost use Rattle.pf_rule.specs.Opening.{opening_walk, pass_no_state};
-ghost use Rattle.pf_rule.specs.Walk.{walked, walked_one};
+ghost use Rattle.pf_rule.specs.Walk.{reached, walked, walked_one};
 ghost use Rattle.pf_rule.specs.declared.packet.Packet.{Packet as AnyPacket};
 ghost use Rattle.pf_rule.specs.declared.rule.Rule.{Rule as FilterRule};
 
@@ -21,8 +21,8 @@ use pf_base::Steps;
 
 /// The answer that the rules give a packet, where no anchor has rules: the last `pass` or `block` rule
 /// that matches decides, a `quick` rule that matches ends the walk, and without a match the packet
-/// passes without state (pf.conf(5)). Each rule is tested at most once, which is counted.
-#[tactic(auto, using(crate::proofs::Walks::walked_stopped, crate::proofs::Walks::walked_all), unfolding(crate::specs::Answer::answer_of))]
+/// passes without state (pf.conf(5)). Each rule that is reached is tested once, which is counted.
+#[tactic(auto, using(crate::proofs::Walks::walked_stopped, crate::proofs::Walks::walked_all, crate::proofs::Walks::reached_stopped, crate::proofs::Walks::reached_all, crate::proofs::Walks::reached_few), unfolding(crate::specs::Answer::answer_of))]
 pub fn evaluate<M: Members, I: Ifaces, L>(
     rules: &[Rule],
     packet: &Packet,
@@ -30,11 +30,11 @@ pub fn evaluate<M: Members, I: Ifaces, L>(
     ifaces: &I,
     steps: &mut Steps<L>,
 ) -> Answer
-    ensures answer {
-        let around = around_by (M.member members.now) (I.in_group ifaces.now) (I.dynamic ifaces.now) in
-        result ≡ answer_of around rules.now packet.now
-    }
-    ensures counted { steps.new.count ≤ steps.old.count + length rules.now }
+    ensures answer { let around = around_by (M.member members.now) (I.in_group ifaces.now) (I.dynamic ifaces.now) in
+        result ≡ answer_of around rules.now packet.now }
+    ensures counted { let around = around_by (M.member members.now) (I.in_group ifaces.now) (I.dynamic ifaces.now) in
+        steps.new.count ≡ steps.old.count + reached around rules.now (opening_walk packet.now) }
+    ensures once { steps.new.count ≤ steps.old.count + length rules.now }
 {
     let mut walk = Walk::begin(packet);
     for rule in rules {
@@ -55,10 +55,8 @@ fn take<M: Members, I: Ifaces, L>(
     ifaces: &I,
     steps: &mut Steps<L>,
 )
-    ensures walk {
-        let around = around_by (M.member members.now) (I.in_group ifaces.now) (I.dynamic ifaces.now) in
-        walk.new ≡ walked_one around rule.now walk.old
-    }
+    ensures walk { let around = around_by (M.member members.now) (I.in_group ifaces.now) (I.dynamic ifaces.now) in
+        walk.new ≡ walked_one around rule.now walk.old }
     ensures counted { steps.new.count ≡ steps.old.count + 1 }
 {
     if let Tested::Hit = hit(rule, walk, members, ifaces, steps)

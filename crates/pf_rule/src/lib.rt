@@ -32,3 +32,6 @@ pub use rule::Rule;
 pub use state::{Flush, Overload, Rate, StateKind, StateOptions, Track};
 pub use testing::{Tested, hit};
 pub use walk::{Answer, Decision, Marks, Walk};
+
+#[cfg(test)]
+mod tests;

@@ -6,12 +6,11 @@ ghost use Rattle.pf_rule.specs.Effect.{effect_on, is_anchor};
 ghost use Rattle.pf_rule.specs.Hit.{tested_at};
 ghost use Rattle.pf_rule.specs.Probe.{marks_of, skipped_by, with_marks};
 
-use crate::applying;
 use crate::members::Members;
-use crate::reply;
 use crate::rule::Rule;
 use crate::testing::{Tested, hit};
 use crate::walk::{Answer, Marks, Walk};
+use crate::{applying, reply};
 use pf_addr::Ifaces;
 use pf_base::{Name, Steps};
 
@@ -30,10 +29,8 @@ pub trait Probe<L> {
         ifaces: &I,
         steps: &mut Steps<L>,
     ) -> Tested
-        ensures value {
-            let around = around_by (M.member members.now) (I.in_group ifaces.now) (I.dynamic ifaces.now) in
-            result ≡ tested_at around rule.now (walk self.old)
-        }
+        ensures value { let around = around_by (M.member members.now) (I.in_group ifaces.now) (I.dynamic ifaces.now) in
+            result ≡ tested_at around rule.now (walk self.old) }
         ensures same { walk self.new ≡ walk self.old }
         ensures counted { steps.new.count ≡ steps.old.count + 1 };
 

@@ -53,22 +53,14 @@ pub fn hit<M: Members, I: Ifaces, L>(
     ifaces: &I,
     steps: &mut Steps<L>,
 ) -> Tested
-    ensures hit {
-        let around = around_by (M.member members.now) (I.in_group ifaces.now) (I.dynamic ifaces.now) in
-        (result ≡ Tested.Hit) ↔ IsTrue (hits_at around rule.now walk.now)
-    }
-    ensures field {
-        let around = around_by (M.member members.now) (I.in_group ifaces.now) (I.dynamic ifaces.now) in
-        (field : ℕ) → (result ≡ Tested.Field field) ↔ (fails_at around rule.now walk.now ≡ Some field)
-    }
-    ensures other {
-        let around = around_by (M.member members.now) (I.in_group ifaces.now) (I.dynamic ifaces.now) in
-        (result ≡ Tested.Other) ↔ ((fails_at around rule.now walk.now ≡ None) × (hits_at around rule.now walk.now ≡ false))
-    }
-    ensures value {
-        let around = around_by (M.member members.now) (I.in_group ifaces.now) (I.dynamic ifaces.now) in
-        result ≡ tested_at around rule.now walk.now
-    }
+    ensures hit { let around = around_by (M.member members.now) (I.in_group ifaces.now) (I.dynamic ifaces.now) in
+        (result ≡ Tested.Hit) ↔ IsTrue (hits_at around rule.now walk.now) }
+    ensures field { let around = around_by (M.member members.now) (I.in_group ifaces.now) (I.dynamic ifaces.now) in
+        (field : ℕ) → (result ≡ Tested.Field field) ↔ (fails_at around rule.now walk.now ≡ Some field) }
+    ensures other { let around = around_by (M.member members.now) (I.in_group ifaces.now) (I.dynamic ifaces.now) in
+        (result ≡ Tested.Other) ↔ ((fails_at around rule.now walk.now ≡ None) × (hits_at around rule.now walk.now ≡ false)) }
+    ensures value { let around = around_by (M.member members.now) (I.in_group ifaces.now) (I.dynamic ifaces.now) in
+        result ≡ tested_at around rule.now walk.now }
     ensures counted { steps.new.count ≡ steps.old.count + 1 }
 {
     steps.tick();
@@ -87,10 +79,8 @@ fn failing_field<M: Members, I: Ifaces>(
     members: &M,
     ifaces: &I,
 ) -> Option<u8>
-    ensures {
-        let around = around_by (M.member members.now) (I.in_group ifaces.now) (I.dynamic ifaces.now) in
-        result ≡ failing_field around criteria.now packet.now
-    }
+    ensures { let around = around_by (M.member members.now) (I.in_group ifaces.now) (I.dynamic ifaces.now) in
+        result ≡ failing_field around criteria.now packet.now }
 {
     if !interface_holds(&criteria.iface, &packet.iface, ifaces) {
         return Some(INTERFACE);
