@@ -1,8 +1,7 @@
 use crate::*;
 use pf_addr::{Addr, DynIf, Ifaces, Prefix, Range, parse_addr, parse_prefix};
-use pf_base::{Family, Name, Path, Steps};
+use pf_base::{Family, Ledger, Name, Steps};
 use pf_ops::{IcmpType, Op16, Op32, OpKind, TcpFlags};
-use std::process::Abort;
 use std::test::Fail;
 
 // A host whose interfaces are all in one group and have the addresses of one network.
@@ -116,7 +115,7 @@ fn syn(source: &str, target: &str, port: u16) -> Result<Packet, Fail> {
     })
 }
 
-// What the test of these criteria finds at a packet.
+// What the test of a rule with these criteria finds at a packet.
 fn found(criteria: &Criteria, packet: &Packet) -> Result<Tested, Fail> {
     let rule = Rule {
         criteria: *criteria,
@@ -132,174 +131,187 @@ fn found(criteria: &Criteria, packet: &Packet) -> Result<Tested, Fail> {
     ))
 }
 
+// Criteria of which the skip fields fail from this one on at a first packet for port 22.
+fn failing_from(field: u8) -> Result<Criteria, Fail> {
+    let elsewhere = AddrTest::Test {
+        negated: false,
+        what: prefix("198.51.100/24")?,
+    };
+    let not_em0 = IfTest::On {
+        name: name("em0")?,
+        negated: true,
+    };
+    let www = Some(Op16::make(OpKind::Equal, 80, 0));
+    let any = AddrTest::Any;
+    Ok(Criteria {
+        iface: if field == 0 { not_em0 } else { IfTest::Any },
+        direction: (field <= 1).then_some(Direction::Out),
+        family: (field <= 2).then_some(Family::Inet6),
+        proto: (field <= 3).then_some(17),
+        source: if field <= 4 { elsewhere } else { any },
+        source_port: if field <= 5 { www } else { None },
+        target: if field <= 6 { elsewhere } else { any },
+        target_port: www,
+        tos: Some(4),
+        ..ANY
+    })
+}
+
 #[test]
 fn the_first_failing_field_is_told(rt: HostRuntime) -> Result<(), Fail> {
     let packet = syn("10.0.0.1", "192.0.2.10", 22)?;
-    let mut criteria = Criteria {
-        target_port: Some(Op16::make(OpKind::Equal, 80, 0)),
-        user: Some(Op32::make(OpKind::Equal, 55, 0)),
+    for field in 0..8 {
+        assert_eq!(rt;
+            found(&failing_from(field)?, &packet)?,
+            Tested::Field(field)
+        );
+    }
+    let tos = Criteria {
+        tos: Some(4),
         ..ANY
     };
-    assert_eq!(rt; found(&criteria, &packet)?, Tested::Field(7));
-    criteria.target = AddrTest::Test {
-        negated: true,
-        what: prefix("192.0.2.0/24")?,
-    };
-    assert_eq!(rt; found(&criteria, &packet)?, Tested::Field(6));
-    criteria.source_port = Some(Op16::make(OpKind::Below, 1024, 0));
-    assert_eq!(rt; found(&criteria, &packet)?, Tested::Field(5));
-    criteria.source = AddrTest::Test {
-        negated: false,
-        what: prefix("10.1/16")?,
-    };
-    assert_eq!(rt; found(&criteria, &packet)?, Tested::Field(4));
-    criteria.proto = Some(17);
-    assert_eq!(rt; found(&criteria, &packet)?, Tested::Field(3));
-    criteria.family = Some(Family::Inet6);
-    assert_eq!(rt; found(&criteria, &packet)?, Tested::Field(2));
-    criteria.direction = Some(Direction::Out);
-    assert_eq!(rt; found(&criteria, &packet)?, Tested::Field(1));
-    criteria.iface = IfTest::On {
-        name: name("egress")?,
-        negated: true,
-    };
-    assert_eq!(rt; found(&criteria, &packet)?, Tested::Field(0));
+    assert_eq!(rt; found(&tos, &packet)?, Tested::Other);
+    assert_eq!(rt; found(&ANY, &packet)?, Tested::Hit);
     Ok(())
+}
+
+// Whether a test of the source with this set, and one with `!`, hit.
+fn from_set(what: AddrSet, source: &str) -> Result<(bool, bool), Fail> {
+    let packet = syn(source, source, 22)?;
+    let criteria = Criteria {
+        source: AddrTest::Test {
+            negated: false,
+            what,
+        },
+        ..ANY
+    };
+    let turned = Criteria {
+        source: AddrTest::Test {
+            negated: true,
+            what,
+        },
+        ..ANY
+    };
+    Ok((
+        found(&criteria, &packet)? == Tested::Hit,
+        found(&turned, &packet)? == Tested::Hit,
+    ))
 }
 
 #[test]
 fn addresses_are_sought_in_their_sets(rt: HostRuntime) -> Result<(), Fail> {
-    let v6 = syn("2001:db8::1", "2001:db8::2", 22)?;
-    let v4 = syn("203.0.113.9", "192.0.2.10", 22)?;
     let range = AddrSet::Range(Range {
         low: Addr::V4(0xcb00_7101),
         high: Addr::V4(0xcb00_7109),
     });
-    let own = AddrSet::Dynamic(DynIf {
+    let em0 = AddrSet::Dynamic(DynIf {
         name: name("em0")?,
         network: false,
         first: false,
     });
+    let all = prefix("0/0")?;
     let cases = [
-        (false, range, &v4, true),
-        (true, range, &v4, false),
-        (false, range, &v6, false),
-        (true, range, &v6, true),
-        (false, prefix("0/0")?, &v6, false),
-        (true, prefix("0/0")?, &v6, true),
-        (false, AddrSet::Table(name("bad")?), &v4, true),
-        (true, AddrSet::Table(name("bad")?), &v4, false),
-        (false, AddrSet::Auto(0), &v6, false),
-        (true, AddrSet::Auto(0), &v6, true),
-        (false, own, &v4, false),
-        (true, own, &v4, true),
+        (range, "203.0.113.9", true),
+        (range, "203.0.113.10", false),
+        (range, "2001:db8::1", false),
+        (all, "203.0.113.9", true),
+        (all, "2001:db8::1", false),
+        (AddrSet::Auto(0), "203.0.113.9", true),
+        (AddrSet::Auto(0), "192.0.2.10", false),
+        (em0, "192.0.2.10", true),
+        (em0, "203.0.113.9", false),
     ];
-    for (negated, what, packet, holds) in cases {
-        let source = AddrTest::Test { negated, what };
-        let criteria = Criteria { source, ..ANY };
-        let want = if holds { Tested::Hit } else { Tested::Field(4) };
-        assert_eq!(rt; found(&criteria, packet)?, want, "{negated} {what:?}");
+    for (what, source, inside) in cases {
+        assert_eq!(rt;
+            from_set(what, source)?,
+            (inside, !inside),
+            "{source} {what:?}"
+        );
     }
     Ok(())
 }
 
 #[test]
-fn the_other_criteria_are_tested(rt: HostRuntime) -> Result<(), Fail> {
-    let tcp = syn("10.0.0.1", "192.0.2.10", 22)?;
-    let owned = Packet {
-        user: Some(55),
-        group: Some(0),
-        ..tcp
-    };
-    let ping = Packet {
-        proto: 1,
-        source_port: None,
-        target_port: None,
-        flags: 0,
-        icmp_type: Some(8),
-        icmp_code: Some(0),
-        user: Some(55),
-        ..tcp
-    };
-    let user = Criteria {
-        user: Some(Op32::make(OpKind::Equal, 55, 0)),
+fn users_are_known_of_tcp_and_udp_alone(rt: HostRuntime) -> Result<(), Fail> {
+    let packet = syn("10.0.0.1", "192.0.2.10", 22)?;
+    let criteria = Criteria {
+        user: Some(Op32::make(OpKind::Other, 0, 0)),
         ..ANY
     };
-    let not_root = Criteria {
-        group: Some(Op32::make(OpKind::Other, 0, 0)),
-        ..ANY
-    };
-    let flags = Criteria {
-        flags: Some(TcpFlags { set: 2, mask: 18 }),
-        ..ANY
-    };
-    let echo = Criteria {
-        icmp: Some(IcmpType {
-            family: Family::Inet,
-            kind: 8,
-            code: None,
-        }),
-        ..ANY
-    };
-    let coded = Criteria {
-        icmp: Some(IcmpType {
-            family: Family::Inet,
-            kind: 8,
-            code: Some(1),
-        }),
-        ..ANY
-    };
-    let cases = [
-        (user, owned, true),
-        (user, tcp, false),
-        (user, ping, false),
-        (not_root, owned, false),
-        (not_root, tcp, false),
-        (flags, tcp, true),
-        (flags, Packet { flags: 18, ..tcp }, false),
-        (flags, Packet { flags: 66, ..tcp }, true),
-        (flags, ping, true),
-        (echo, ping, true),
-        (echo, Packet { proto: 58, ..ping }, true),
-        (echo, Packet { proto: 17, ..ping }, false),
-        (echo, tcp, false),
-        (coded, ping, false),
-        (
-            coded,
-            Packet {
-                icmp_code: Some(1),
-                ..ping
-            },
-            true,
-        ),
-        (
-            Criteria {
-                tos: Some(4),
-                ..ANY
-            },
-            tcp,
-            false,
-        ),
-        (
-            Criteria {
-                prio: Some(3),
-                ..ANY
-            },
-            tcp,
-            true,
-        ),
-    ];
-    for (criteria, packet, holds) in cases {
-        let want = if holds { Tested::Hit } else { Tested::Other };
-        assert_eq!(rt; found(&criteria, &packet)?, want, "{criteria:?} {packet:?}");
+    for (proto, user, want) in [
+        (6, Some(55), Tested::Hit),
+        (17, Some(55), Tested::Hit),
+        (1, Some(55), Tested::Other),
+        (6, Some(0), Tested::Other),
+        (6, None, Tested::Other),
+    ] {
+        let packet = Packet {
+            proto,
+            user,
+            ..packet
+        };
+        assert_eq!(rt; found(&criteria, &packet)?, want, "{proto} {user:?}");
     }
     Ok(())
 }
 
-// What the rules answer a packet, and how many of them they reach.
-fn answered(rules: &[Rule], packet: &Packet) -> Result<Answer, Fail> {
-    let mut steps = Steps::start();
-    Ok(evaluate(rules, packet, &NoTables, &make_host()?, &mut steps))
+#[test]
+fn flags_are_tested_of_tcp_alone(rt: HostRuntime) -> Result<(), Fail> {
+    let packet = syn("10.0.0.1", "192.0.2.10", 22)?;
+    let criteria = Criteria {
+        flags: Some(TcpFlags { set: 2, mask: 18 }),
+        ..ANY
+    };
+    for (proto, flags, want) in [
+        (6, 2, Tested::Hit),
+        (6, 66, Tested::Hit),
+        (6, 18, Tested::Other),
+        (6, 0, Tested::Other),
+        (17, 0, Tested::Hit),
+    ] {
+        let packet = Packet {
+            proto,
+            flags,
+            ..packet
+        };
+        assert_eq!(rt; found(&criteria, &packet)?, want, "{proto} {flags}");
+    }
+    Ok(())
+}
+
+#[test]
+fn types_are_tested_of_icmp_alone(rt: HostRuntime) -> Result<(), Fail> {
+    let packet = syn("10.0.0.1", "192.0.2.10", 22)?;
+    for (proto, code, icmp_code, want) in [
+        (1, None, Some(0), Tested::Hit),
+        (58, None, None, Tested::Hit),
+        (6, None, Some(0), Tested::Other),
+        (1, Some(1), Some(1), Tested::Hit),
+        (1, Some(1), Some(0), Tested::Other),
+        (1, Some(1), None, Tested::Other),
+    ] {
+        let echo = IcmpType {
+            family: Family::Inet,
+            kind: 8,
+            code,
+        };
+        let criteria = Criteria {
+            icmp: Some(echo),
+            ..ANY
+        };
+        let packet = Packet {
+            proto,
+            icmp_type: Some(8),
+            icmp_code,
+            ..packet
+        };
+        assert_eq!(rt;
+            found(&criteria, &packet)?,
+            want,
+            "{proto} {code:?} {icmp_code:?}"
+        );
+    }
+    Ok(())
 }
 
 // `block return`, `pass`, `block return in on ! lo0 proto tcp to port 6000:6010` and
@@ -352,60 +364,57 @@ fn default_rules() -> Result<[Rule; 4], Fail> {
     ])
 }
 
+// What the rules decide of a packet, without any table.
+fn decided(rules: &[Rule], packet: &Packet) -> Result<Decision, Fail> {
+    let mut steps = Steps::start();
+    Ok(evaluate(rules, packet, &NoTables, &make_host()?, &mut steps).decision)
+}
+
 #[test]
-fn the_default_rules_answer(rt: HostRuntime) -> Result<(), Fail> {
+fn the_default_rules_decide(rt: HostRuntime) -> Result<(), Fail> {
     let rules = default_rules()?;
-    let ssh = syn("198.51.100.7", "192.0.2.10", 22)?;
-    let x11 = syn("198.51.100.7", "192.0.2.10", 6000)?;
-    let build = Packet {
-        direction: Direction::Out,
-        user: Some(55),
-        ..syn("192.0.2.10", "198.51.100.7", 80)?
-    };
-    let lo0 = Packet {
-        iface: name("lo0")?,
-        ..x11
-    };
-    let cases = [
-        (ssh, true, false),
-        (x11, false, false),
-        (lo0, true, false),
-        (Packet { flags: 18, ..ssh }, false, false),
-        (build, false, true),
+    let packet = syn("198.51.100.7", "192.0.2.10", 22)?;
+    let returned = Action::Block(BlockKind::Return);
+    for (direction, iface, port, flags, user, action, logged) in [
+        (Direction::In, "em0", 22, 2, None, Action::Pass, false),
+        (Direction::In, "em0", 6000, 2, None, returned, false),
+        (Direction::In, "lo0", 6000, 2, None, Action::Pass, false),
+        (Direction::In, "em0", 22, 18, None, returned, false),
+        (Direction::Out, "em0", 80, 2, Some(55), returned, true),
         (
-            Packet {
-                user: Some(1000),
-                ..build
-            },
-            true,
+            Direction::Out,
+            "em0",
+            80,
+            2,
+            Some(1000),
+            Action::Pass,
             false,
         ),
-    ];
-    for (packet, passes, logged) in cases {
-        let decision = answered(&rules, &packet)?.decision;
-        let (action, state) = if passes {
-            (Action::Pass, StateKind::Keep)
-        } else {
-            (Action::Block(BlockKind::Return), StateKind::None)
+    ] {
+        let target_port = Some(port);
+        let iface = name(iface)?;
+        let packet = Packet {
+            direction,
+            iface,
+            target_port,
+            flags,
+            user,
+            ..packet
         };
+        let decision = decided(&rules, &packet)?;
         assert_eq!(rt; decision.action, action, "{packet:?}");
-        assert_eq!(rt; decision.state, state, "{packet:?}");
         assert_eq!(rt; decision.params.log.on, logged, "{packet:?}");
     }
-    let none = answered(&[], &ssh)?;
-    assert_eq!(rt; none.decision.action, Action::Pass);
-    assert_eq!(rt; none.decision.state, StateKind::None);
-    assert_eq!(rt; none.tag, None);
+    let none = decided(&[], &packet)?;
+    assert_eq!(rt; none.action, Action::Pass);
+    assert_eq!(rt; none.state, StateKind::None);
     Ok(())
 }
 
-// What a probe of any type answers to one rule.
-fn probed<P: Probe<L>, L>(
-    probe: &mut P,
-    rule: &Rule,
-    steps: &mut Steps<L>,
-) -> Result<Tested, Fail> {
-    let found = probe.test(rule, &NoTables, &make_host()?, steps);
+// Tests a rule at a probe of any type, and does what it does where it hits.
+fn probed<P: Probe<Ledger>>(probe: &mut P, rule: &Rule) -> Result<Tested, Fail> {
+    let mut steps = Steps::start();
+    let found = probe.test(rule, &NoTables, &make_host()?, &mut steps);
     if let Tested::Hit = found
         && !rule.effect.action.is_anchor()
     {
@@ -414,86 +423,57 @@ fn probed<P: Probe<L>, L>(
     Ok(found)
 }
 
+// A rule that tests for the tag `old`.
+fn of_tag(negated: bool, action: Action) -> Result<Rule, Fail> {
+    let name = name("old")?;
+    let tagged = TagTest::Is { name, negated };
+    Ok(Rule {
+        criteria: Criteria { tagged, ..ANY },
+        effect: Effect { action, ..BLOCK },
+    })
+}
+
 #[test]
-fn a_probe_shows_tests_marks_and_the_answer(rt: HostRuntime) -> Result<(), Fail> {
-    let packet = Packet {
-        tag: Some(name("old")?),
-        ..syn("10.0.0.1", "192.0.2.10", 22)?
-    };
+fn match_rules_set_tags_and_parameters(rt: HostRuntime) -> Result<(), Fail> {
+    let mut packet = syn("10.0.0.1", "192.0.2.10", 22)?;
+    packet.tag = Some(name("old")?);
     let mut walk = Walk::begin(&packet);
-    let mut steps = Steps::start();
-    let mut effect = Effect {
-        action: Action::Match,
-        tag: Some(name("new")?),
-        ..BLOCK
-    };
-    effect.params.queue = Some(Queues {
-        first: name("bulk")?,
-        second: None,
-    });
-    effect.params.log.to = Some(name("pflog1")?);
-    let mut rule = Rule {
-        criteria: Criteria {
-            tagged: TagTest::Is {
-                name: name("old")?,
-                negated: false,
-            },
-            ..ANY
-        },
-        effect,
-    };
-    assert_eq!(rt; probed(&mut walk, &rule, &mut steps)?, Tested::Hit);
-    assert_eq!(rt; probed(&mut walk, &rule, &mut steps)?, Tested::Other);
-    rule.criteria.tagged = TagTest::Is {
-        name: name("old")?,
-        negated: true,
-    };
-    rule.effect = Effect {
-        action: Action::Block(BlockKind::Drop),
-        quick: true,
-        tag: None,
-        label: Some(name("spam")?),
-        ..BLOCK
-    };
-    assert_eq!(rt; probed(&mut walk, &rule, &mut steps)?, Tested::Hit);
-    rule.effect.action = Action::Anchor(Call {
-        path: Path::main(),
-        children: true,
-    });
-    assert_eq!(rt; probed(&mut walk, &rule, &mut steps)?, Tested::Hit);
-    let probe: &mut Walk = &mut walk;
-    let answer = Probe::<pf_base::Ledger>::answer(probe);
-    assert_eq!(rt; answer.tag, Some(name("new")?));
+    let mut marking = of_tag(false, Action::Match)?;
+    marking.effect.tag = Some(name("new")?);
+    marking.effect.params.tos = Some(4);
+    marking.effect.params.log.to = Some(name("pflog1")?);
+    assert_eq!(rt; probed(&mut walk, &marking)?, Tested::Hit);
+    assert_eq!(rt; probed(&mut walk, &marking)?, Tested::Other);
+    let mut deciding = of_tag(true, Action::Block(BlockKind::Drop))?;
+    deciding.effect.params.tos = Some(8);
+    assert_eq!(rt; probed(&mut walk, &deciding)?, Tested::Hit);
+    let answer = answer(&walk);
+    assert_eq!(rt; answer.tag, marking.effect.tag);
     assert_eq!(rt; answer.decision.action, Action::Block(BlockKind::Drop));
-    assert_eq!(rt; answer.decision.label, Some(name("spam")?));
-    assert_eq!(rt; answer.decision.params, effect.params);
+    assert_eq!(rt; answer.decision.params.tos, Some(8));
+    assert_eq!(rt; answer.decision.params.log.to, marking.effect.params.log.to);
     Ok(())
+}
+
+// The marks of a probe at its opening, and whether it is on an interface of these names.
+fn opened<P: Probe<Ledger>>(probe: &mut P, skip: &[Name]) -> Result<(Marks, Marks, bool), Fail> {
+    let first = probe.marks();
+    probe.set_marks(Marks {
+        matched: true,
+        stop: first.stop,
+    });
+    Ok((first, probe.marks(), probe.skips(skip, &make_host()?)))
 }
 
 #[test]
 fn marks_and_skipped_interfaces(rt: HostRuntime) -> Result<(), Fail> {
-    let mut walk = Walk::begin(&syn("10.0.0.1", "192.0.2.10", 22)?);
-    seen(&rt, &mut walk, &mut Steps::start())
-}
-
-fn seen<P: Probe<L>, L>(rt: &impl Abort, probe: &mut P, _steps: &mut Steps<L>) -> Result<(), Fail> {
-    let both = Marks {
-        matched: true,
-        stop: true,
-    };
-    assert_eq!(rt;
-        probe.marks(),
-        Marks {
-            matched: false,
-            stop: false
-        }
-    );
-    probe.set_marks(both);
-    assert_eq!(rt; probe.marks(), both);
-    let host = make_host()?;
-    assert!(rt; probe.skips(&[name("lo0")?, name("em0")?], &host));
-    assert!(rt; probe.skips(&[name("egress")?], &host));
-    assert!(rt; !probe.skips(&[name("lo0")?], &host));
-    assert!(rt; !probe.skips(&[], &host));
+    let packet = syn("10.0.0.1", "192.0.2.10", 22)?;
+    for (skip, skipped) in [("lo0", false), ("em0", true), ("egress", true)] {
+        let mut walk = Walk::begin(&packet);
+        let (first, second, skips) = opened(&mut walk, &[name("tun0")?, name(skip)?])?;
+        assert!(rt; !first.matched && !first.stop);
+        assert!(rt; second.matched && !second.stop);
+        assert_eq!(rt; skips, skipped, "{skip}");
+    }
     Ok(())
 }
