@@ -3,7 +3,7 @@ ghost use Rattle.std.specs.Prelude.{◌≡◌, [], ◌∷◌, true, false, IfSom
 ghost use Rattle.std.specs.List.{list_all};
 ghost use Rattle.std.specs.Option.{option_copied};
 ghost use Rattle.pf_base.specs.Name.{is_plain_name};
-ghost use Rattle.pf_base.specs.Text.{fields_of};
+ghost use Rattle.pf_base.specs.Text.{fields_of, is_nothing};
 ghost use Rattle.pf_host.specs.Line.{is_one, is_rest, line_of};
 ghost use Rattle.pf_host.specs.Reading.{IsFit, IsRead, fields_left, line_read};
 
@@ -37,14 +37,16 @@ fn are_names(rest: Option<&[u8]>) -> bool
     true
 }
 
-// The one word of what is left.
+// The one word of what is left, which isn't empty.
 fn only_word(rest: Option<&[u8]>) -> Option<&[u8]>
     ensures some { IfSome result (λ word. fields_left (option_copied rest.entry) ≡ word.now ∷ []) }
+    ensures filled { IfSome result (λ word. is_nothing word.now ≡ false) }
     ensures none { IfNone result (is_one (fields_left (option_copied rest.entry)) ≡ false) }
 {
     let text = rest?;
     let (word, behind) = split_field(text);
     match behind {
+        None if word.is_empty() => None,
         None => Some(word),
         Some(_) => None,
     }
