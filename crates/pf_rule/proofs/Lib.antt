@@ -1,3 +1,4 @@
+pub mod Decided
 pub mod Decisions
 pub mod Effects
 pub mod Founds

@@ -7,7 +7,7 @@ use Rattle.pf_rule.specs.declared.criteria.AddrSet.{AddrSet}
 pub record Around : Type 0 where
   -- the address is in the table
   pub member : AddrSet → Addr → Bool
-  -- the name is the interface's, the second, or one that it goes by
+  -- the first name means the interface with the second: it is its name, one of its groups, or its name without the digits at its end
   pub in_group : List ℕ → List ℕ → Bool
   -- the address is one that the interfaces have at the moment
   pub dynamic : DynIf → Addr → Bool

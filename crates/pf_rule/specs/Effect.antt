@@ -52,6 +52,6 @@ acted_on (Block kind) effect walk = decided_on effect walk
 acted_on Match effect walk = matched_on effect walk
 acted_on (Anchor call) effect walk = walk
 
--- the walk after a rule that hits; an anchor rule's own effect is none, since its rules are walked elsewhere
+-- the walk after a rule that hits; here an anchor rule changes nothing, since its rules are walked elsewhere
 unfoldable pub effect_on : Effect → Walk → Walk
 effect_on effect walk = acted_on effect.action effect walk

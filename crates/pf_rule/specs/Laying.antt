@@ -1,5 +1,5 @@
--- The parameters of a rule laid over others (pf.conf(5), "match" and PARAMETERS): what has a value replaces
--- the other where it is given, and what is only set or not set stays set once it is set.
+-- The parameters of a rule laid over others, as several match rules set them one after the other: what has a value
+-- replaces the other where it is given, and what is only set or not set stays set once it is set.
 use Rattle.std.specs.Prelude.{◌||◌}
 use Rattle.std.specs.Option.{option_or}
 use Rattle.pf_rule.specs.declared.params.Log.{Log}

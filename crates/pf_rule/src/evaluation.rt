@@ -1,9 +1,9 @@
 //! The evaluation of a packet by a list of rules.
-ghost use Rattle.std.specs.Prelude.{◌≡◌, ◌+◌, ◌≤◌, List, ◌∷◌, ◌++◌, [], true, length};
+ghost use Rattle.std.specs.Prelude.{◌≡◌, ◌+◌, ◌≤◌, List, ◌∷◌, ◌++◌, [], true, IsTrue, length};
 ghost use Rattle.pf_rule.specs.Answer.{answer_of, decision_over};
 ghost use Rattle.pf_rule.specs.Around.{Around as Outside, around_by};
 ghost use Rattle.pf_rule.specs.Deciding.{Decides, NoneDecides};
-ghost use Rattle.pf_rule.specs.Effect.{decision_of};
+ghost use Rattle.pf_rule.specs.Effect.{decision_of, is_deciding};
 ghost use Rattle.pf_rule.specs.Opening.{opening_walk, pass_no_state};
 ghost use Rattle.pf_rule.specs.Walk.{reached, walked, walked_one};
 ghost use Rattle.pf_rule.specs.declared.packet.Packet.{Packet as AnyPacket};
@@ -22,7 +22,7 @@ use pf_base::Steps;
 /// The answer that the rules give a packet, where no anchor has rules: the last `pass` or `block` rule
 /// that matches decides, a `quick` rule that matches ends the walk, and without a match the packet
 /// passes without state (pf.conf(5)). Each rule that is reached is tested once, which is counted.
-#[tactic(auto, using(crate::proofs::Walks::walked_stopped, crate::proofs::Walks::walked_all, crate::proofs::Walks::reached_stopped, crate::proofs::Walks::reached_all, crate::proofs::Walks::reached_few), unfolding(crate::specs::Answer::answer_of))]
+#[tactic(auto, using(crate::proofs::Walks::walked_stopped, crate::proofs::Walks::walked_all, crate::proofs::Walks::reached_stopped, crate::proofs::Walks::reached_all, crate::proofs::Walks::reached_few, crate::proofs::Decided::answer_decided), unfolding(crate::specs::Answer::answer_of))]
 pub fn evaluate<M: Members, I: Ifaces, L>(
     rules: &[Rule],
     packet: &Packet,
@@ -35,6 +35,7 @@ pub fn evaluate<M: Members, I: Ifaces, L>(
     ensures counted { let around = around_by (M.member members.now) (I.in_group ifaces.now) (I.dynamic ifaces.now) in
         steps.new.count ≡ steps.old.count + reached around rules.now (opening_walk packet.now) }
     ensures once { steps.new.count ≤ steps.old.count + length rules.now }
+    ensures decided { IsTrue (is_deciding result.decision.action) }
 {
     let mut walk = Walk::begin(packet);
     for rule in rules {

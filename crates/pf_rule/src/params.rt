@@ -1,4 +1,4 @@
-//! The parameters that rules set (pf.conf(5), PARAMETERS and PACKET NORMALISATION).
+//! The parameters that rules set (pf.conf(5), PARAMETERS and TRAFFIC NORMALISATION).
 ghost use Rattle.std.specs.Prelude.{◌≡◌};
 ghost use Rattle.pf_rule.specs.Laying.{laid_over, log_over, scrub_over};
 
