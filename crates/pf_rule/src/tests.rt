@@ -131,9 +131,14 @@ fn found(criteria: &Criteria, packet: &Packet) -> Result<Tested, Fail> {
     ))
 }
 
-// Criteria of which the skip fields fail from this one on at a first packet for port 22.
-fn failing_from(field: u8) -> Result<Criteria, Fail> {
+// What is found, at a first packet for port 22, of criteria whose skip fields fail from this one on: from
+// 8 on only the type of service fails, and from 9 on nothing.
+fn found_from(field: u8) -> Result<Tested, Fail> {
     let elsewhere = AddrTest::Test {
+        negated: false,
+        what: prefix("198.51.100/24")?,
+    };
+    let beyond = AddrTest::Test {
         negated: false,
         what: prefix("198.51.100/24")?,
     };
@@ -141,37 +146,33 @@ fn failing_from(field: u8) -> Result<Criteria, Fail> {
         name: name("em0")?,
         negated: true,
     };
-    let www = Some(Op16::make(OpKind::Equal, 80, 0));
-    let any = AddrTest::Any;
-    Ok(Criteria {
+    let www = Op16::make(OpKind::Equal, 80, 0);
+    let criteria = Criteria {
         iface: if field == 0 { not_em0 } else { IfTest::Any },
         direction: (field <= 1).then_some(Direction::Out),
         family: (field <= 2).then_some(Family::Inet6),
         proto: (field <= 3).then_some(17),
-        source: if field <= 4 { elsewhere } else { any },
-        source_port: if field <= 5 { www } else { None },
-        target: if field <= 6 { elsewhere } else { any },
-        target_port: www,
-        tos: Some(4),
+        source: if field <= 4 { elsewhere } else { AddrTest::Any },
+        source_port: (field <= 5).then_some(www),
+        target: if field <= 6 { beyond } else { AddrTest::Any },
+        target_port: (field <= 7).then_some(www),
+        tos: (field <= 8).then_some(4),
         ..ANY
-    })
+    };
+    let packet = syn("10.0.0.1", "192.0.2.10", 22)?;
+    Ok(found(&criteria, &packet)?)
 }
 
 #[test]
 fn the_first_failing_field_is_told(rt: HostRuntime) -> Result<(), Fail> {
-    let packet = syn("10.0.0.1", "192.0.2.10", 22)?;
     for field in 0..8 {
-        assert_eq!(rt;
-            found(&failing_from(field)?, &packet)?,
-            Tested::Field(field)
-        );
+        let tested = found_from(field)?;
+        assert_eq!(rt; tested, Tested::Field(field));
     }
-    let tos = Criteria {
-        tos: Some(4),
-        ..ANY
-    };
-    assert_eq!(rt; found(&tos, &packet)?, Tested::Other);
-    assert_eq!(rt; found(&ANY, &packet)?, Tested::Hit);
+    let other = found_from(8)?;
+    assert_eq!(rt; other, Tested::Other);
+    let hit = found_from(9)?;
+    assert_eq!(rt; hit, Tested::Hit);
     Ok(())
 }
 
@@ -364,57 +365,55 @@ fn default_rules() -> Result<[Rule; 4], Fail> {
     ])
 }
 
-// What the rules decide of a packet, without any table.
-fn decided(rules: &[Rule], packet: &Packet) -> Result<Decision, Fail> {
+// Whether the default rules pass a TCP packet, and whether they log it.
+fn default_passes(
+    direction: Direction,
+    iface: &str,
+    port: u16,
+    flags: u8,
+    user: Option<u32>,
+) -> Result<(bool, bool), Fail> {
+    let iface = name(iface)?;
+    let packet = syn("198.51.100.7", "192.0.2.10", port)?;
+    let packet = Packet {
+        direction,
+        iface,
+        flags,
+        user,
+        ..packet
+    };
+    let rules = default_rules()?;
+    let host = make_host()?;
     let mut steps = Steps::start();
-    Ok(evaluate(rules, packet, &NoTables, &make_host()?, &mut steps).decision)
+    let decision = evaluate(&rules, &packet, &NoTables, &host, &mut steps).decision;
+    Ok((decision.action == Action::Pass, decision.params.log.on))
 }
 
 #[test]
 fn the_default_rules_decide(rt: HostRuntime) -> Result<(), Fail> {
-    let rules = default_rules()?;
-    let packet = syn("198.51.100.7", "192.0.2.10", 22)?;
-    let returned = Action::Block(BlockKind::Return);
-    for (direction, iface, port, flags, user, action, logged) in [
-        (Direction::In, "em0", 22, 2, None, Action::Pass, false),
-        (Direction::In, "em0", 6000, 2, None, returned, false),
-        (Direction::In, "lo0", 6000, 2, None, Action::Pass, false),
-        (Direction::In, "em0", 22, 18, None, returned, false),
-        (Direction::Out, "em0", 80, 2, Some(55), returned, true),
-        (
-            Direction::Out,
-            "em0",
-            80,
-            2,
-            Some(1000),
-            Action::Pass,
-            false,
-        ),
+    for (direction, iface, port, flags, user, passes, logged) in [
+        (Direction::In, "em0", 22, 2, None, true, false),
+        (Direction::In, "em0", 6000, 2, None, false, false),
+        (Direction::In, "lo0", 6000, 2, None, true, false),
+        (Direction::In, "em0", 22, 18, None, false, false),
+        (Direction::Out, "em0", 80, 2, Some(55), false, true),
+        (Direction::Out, "em0", 80, 2, Some(1000), true, false),
     ] {
-        let target_port = Some(port);
-        let iface = name(iface)?;
-        let packet = Packet {
-            direction,
-            iface,
-            target_port,
-            flags,
-            user,
-            ..packet
-        };
-        let decision = decided(&rules, &packet)?;
-        assert_eq!(rt; decision.action, action, "{packet:?}");
-        assert_eq!(rt; decision.params.log.on, logged, "{packet:?}");
+        let decided = default_passes(direction, iface, port, flags, user)?;
+        assert_eq!(rt;
+            decided,
+            (passes, logged),
+            "{iface} {port} {flags} {user:?}"
+        );
     }
-    let none = decided(&[], &packet)?;
-    assert_eq!(rt; none.action, Action::Pass);
-    assert_eq!(rt; none.state, StateKind::None);
     Ok(())
 }
 
 // Tests a rule at a probe of any type, and does what it does where it hits.
 fn probed<P: Probe<Ledger>>(probe: &mut P, rule: &Rule) -> Result<Tested, Fail> {
     let mut steps = Steps::start();
-    let found = probe.test(rule, &NoTables, &make_host()?, &mut steps);
+    let host = make_host()?;
+    let found = probe.test(rule, &NoTables, &host, &mut steps);
     if let Tested::Hit = found
         && !rule.effect.action.is_anchor()
     {
@@ -423,57 +422,96 @@ fn probed<P: Probe<Ledger>>(probe: &mut P, rule: &Rule) -> Result<Tested, Fail> 
     Ok(found)
 }
 
-// A rule that tests for the tag `old`.
-fn of_tag(negated: bool, action: Action) -> Result<Rule, Fail> {
-    let name = name("old")?;
-    let tagged = TagTest::Is { name, negated };
-    Ok(Rule {
-        criteria: Criteria { tagged, ..ANY },
-        effect: Effect { action, ..BLOCK },
-    })
-}
-
 #[test]
 fn match_rules_set_tags_and_parameters(rt: HostRuntime) -> Result<(), Fail> {
-    let mut packet = syn("10.0.0.1", "192.0.2.10", 22)?;
-    packet.tag = Some(name("old")?);
+    let packet = Packet {
+        tag: Some(name("old")?),
+        ..syn("10.0.0.1", "192.0.2.10", 22)?
+    };
     let mut walk = Walk::begin(&packet);
-    let mut marking = of_tag(false, Action::Match)?;
-    marking.effect.tag = Some(name("new")?);
-    marking.effect.params.tos = Some(4);
-    marking.effect.params.log.to = Some(name("pflog1")?);
-    assert_eq!(rt; probed(&mut walk, &marking)?, Tested::Hit);
-    assert_eq!(rt; probed(&mut walk, &marking)?, Tested::Other);
-    let mut deciding = of_tag(true, Action::Block(BlockKind::Drop))?;
-    deciding.effect.params.tos = Some(8);
-    assert_eq!(rt; probed(&mut walk, &deciding)?, Tested::Hit);
-    let answer = answer(&walk);
-    assert_eq!(rt; answer.tag, marking.effect.tag);
-    assert_eq!(rt; answer.decision.action, Action::Block(BlockKind::Drop));
-    assert_eq!(rt; answer.decision.params.tos, Some(8));
-    assert_eq!(rt; answer.decision.params.log.to, marking.effect.params.log.to);
+    let mut effect = Effect {
+        action: Action::Match,
+        tag: Some(name("new")?),
+        ..BLOCK
+    };
+    effect.params.queue = Some(Queues {
+        first: name("bulk")?,
+        second: None,
+    });
+    effect.params.log.to = Some(name("pflog1")?);
+    let mut rule = Rule {
+        criteria: Criteria {
+            tagged: TagTest::Is {
+                name: name("old")?,
+                negated: false,
+            },
+            ..ANY
+        },
+        effect,
+    };
+    assert_eq!(rt; probed(&mut walk, &rule)?, Tested::Hit);
+    assert_eq!(rt; probed(&mut walk, &rule)?, Tested::Other);
+    rule.criteria.tagged = TagTest::Is {
+        name: name("old")?,
+        negated: true,
+    };
+    rule.effect = Effect {
+        action: Action::Block(BlockKind::Drop),
+        quick: true,
+        tag: None,
+        label: Some(name("spam")?),
+        ..BLOCK
+    };
+    assert_eq!(rt; probed(&mut walk, &rule)?, Tested::Hit);
+    let reply = answer(&walk);
+    assert_eq!(rt; reply.tag, Some(name("new")?));
+    assert_eq!(rt; reply.decision.action, Action::Block(BlockKind::Drop));
+    assert_eq!(rt; reply.decision.label, Some(name("spam")?));
+    assert_eq!(rt; reply.decision.params, effect.params);
     Ok(())
 }
 
-// The marks of a probe at its opening, and whether it is on an interface of these names.
-fn opened<P: Probe<Ledger>>(probe: &mut P, skip: &[Name]) -> Result<(Marks, Marks, bool), Fail> {
+// The marks of a probe, before and after one is set.
+fn marked<P: Probe<Ledger>>(probe: &mut P) -> (Marks, Marks) {
     let first = probe.marks();
     probe.set_marks(Marks {
         matched: true,
         stop: first.stop,
     });
-    Ok((first, probe.marks(), probe.skips(skip, &make_host()?)))
+    (first, probe.marks())
+}
+
+// Whether a probe is on the interface tun0 or on this one.
+fn skipped<P: Probe<Ledger>>(probe: &P, iface: &str) -> Result<bool, Fail> {
+    let names = [name("tun0")?, name(iface)?];
+    let host = make_host()?;
+    Ok(probe.skips(&names, &host))
+}
+
+// The marks of the walk of a packet on em0, and whether the packet is skipped.
+fn opened(skip: &str) -> Result<(Marks, Marks, bool), Fail> {
+    let iface = name("em0")?;
+    let packet = syn("10.0.0.1", "192.0.2.10", 22)?;
+    let packet = Packet {
+        direction: Direction::Out,
+        iface,
+        flags: 0,
+        user: None,
+        ..packet
+    };
+    let mut walk = Walk::begin(&packet);
+    let (first, second) = marked(&mut walk);
+    let skips = skipped(&walk, skip)?;
+    Ok((first, second, skips))
 }
 
 #[test]
 fn marks_and_skipped_interfaces(rt: HostRuntime) -> Result<(), Fail> {
-    let packet = syn("10.0.0.1", "192.0.2.10", 22)?;
-    for (skip, skipped) in [("lo0", false), ("em0", true), ("egress", true)] {
-        let mut walk = Walk::begin(&packet);
-        let (first, second, skips) = opened(&mut walk, &[name("tun0")?, name(skip)?])?;
+    for (skip, skips) in [("em0", true), ("egress", true), ("lo0", false)] {
+        let (first, second, found) = opened(skip)?;
         assert!(rt; !first.matched && !first.stop);
         assert!(rt; second.matched && !second.stop);
-        assert_eq!(rt; skips, skipped, "{skip}");
+        assert_eq!(rt; found, skips, "{skip}");
     }
     Ok(())
 }
