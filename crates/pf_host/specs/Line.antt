@@ -1,10 +1,10 @@
 -- The lines of a facts file: words between single spaces, of which the first says what the line is about and
 -- the second is a name.
-use Rattle.std.specs.Prelude.{ℕ, Bool, true, false, ◌&&◌, ◌==◌, List, [], ◌∷◌, Option, Some, None, codes, filter, if◌then◌else◌}
+use Rattle.std.specs.Prelude.{ℕ, Bool, true, false, not, ◌&&◌, ◌==◌, List, [], ◌∷◌, Option, Some, None, codes, filter, if◌then◌else◌}
 use Rattle.std.specs.List.{list_all, filter_map}
 use Rattle.std.specs.Str.{bytes_eq}
 use Rattle.pf_base.specs.Name.{is_plain_name}
-use Rattle.pf_base.specs.Text.{fields_of}
+use Rattle.pf_base.specs.Text.{fields_of, is_nothing}
 use Rattle.pf_host.specs.declared.kind.Kind.{Kind}
 use Rattle.pf_host.specs.declared.kind.Kind.TheVariants.{Interface, Address, Host, User, Group, Service}
 
@@ -25,8 +25,9 @@ pub record Line : Type 0 where
   pub name : List ℕ
   pub rest : List (List ℕ)
 
+-- one word that isn't empty
 abbrev pub is_one : List (List ℕ) → Bool
-is_one (word ∷ []) = true
+is_one (word ∷ []) = not (is_nothing word)
 is_one rest = false
 
 -- behind the name of an interface stand the names of its groups, behind any other name one word

@@ -19,7 +19,7 @@ mod word;
 
 pub use facts::Facts;
 pub use fault::{FactsCause, FactsFault};
-pub use read::{a_text_has_facts_or_one_fault, read_facts};
+pub use read::{facts_and_one_fault_exclude_each_other, read_facts};
 
 #[cfg(test)]
 mod tests;

@@ -18,10 +18,10 @@ use crate::iface_address::IfaceAddress;
 use crate::index::Index;
 use crate::names::Names;
 use crate::statement::{Statement, read_statement};
-use crate::word::{name_of, read_address};
+use crate::word::read_address;
 use pf_addr::parse_addr;
 use pf_base::text::{decimal, split_field, split_line};
-use pf_base::{Name, NoMemory};
+use pf_base::{Name, NoMemory, plain_name};
 use std::alloc::Global;
 
 // How many lines about interfaces, and how many about their addresses, may stand.
@@ -192,7 +192,7 @@ fn add_groups(
     let mut next = rest;
     while let Some(text) = next {
         let (word, behind) = split_field(text);
-        let Some(group) = name_of(word) else {
+        let Some(group) = plain_name(word) else {
             unreachable!();
         };
         members.push(alloc, iface, group)?;
@@ -230,9 +230,9 @@ pub fn read_facts(alloc: Global, text: &[u8]) -> Result<Facts, FactsFault>
     Ok(facts)
 }
 
-/// A law: a text is a facts file or has one first fault, and never both. So [`read_facts`] takes exactly the
-/// facts files, and refuses any other text with exactly its first fault.
-pub fn a_text_has_facts_or_one_fault()
+/// A law: a facts file has no first fault, and a text has no two. So [`read_facts`] takes no text with a fault,
+/// and refuses no facts file.
+pub fn facts_and_one_fault_exclude_each_other()
     ensures apart { (text : List ℕ) (facts : HostFacts) (line : ℕ) (cause : Cause) → IsFactsText text facts → IsFaultAt text line cause → ⊥ }
     ensures one { (text : List ℕ) (line : ℕ) (cause : Cause) (other_line : ℕ) (other_cause : Cause) → IsFaultAt text line cause → IsFaultAt text other_line other_cause → (line ≡ other_line) × (cause ≡ other_cause) }
 {}

@@ -3,14 +3,13 @@ ghost use Rattle.std.specs.Prelude.{◌≡◌, [], ◌∷◌, true, false, IfSom
 ghost use Rattle.std.specs.List.{list_all};
 ghost use Rattle.std.specs.Option.{option_copied};
 ghost use Rattle.pf_base.specs.Name.{is_plain_name};
-ghost use Rattle.pf_base.specs.Text.{fields_of};
+ghost use Rattle.pf_base.specs.Text.{fields_of, is_nothing};
 ghost use Rattle.pf_host.specs.Line.{is_one, is_rest, line_of};
 ghost use Rattle.pf_host.specs.Reading.{IsFit, IsRead, fields_left, line_read};
 
 use crate::kind::{Kind, kind_of};
-use crate::word::name_of;
-use pf_base::Name;
 use pf_base::text::split_field;
+use pf_base::{Name, plain_name};
 
 // A line: its name and what stands behind it.
 #[derive(Drop)]
@@ -30,7 +29,7 @@ fn are_names(rest: Option<&[u8]>) -> bool
     let mut next = rest;
     while let Some(text) = next {
         let (word, behind) = split_field(text);
-        if name_of(word).is_none() {
+        if plain_name(word).is_none() {
             return false;
         }
         next = behind;
@@ -38,14 +37,16 @@ fn are_names(rest: Option<&[u8]>) -> bool
     true
 }
 
-// The one word of what is left.
+// The one word of what is left, which isn't empty.
 fn only_word(rest: Option<&[u8]>) -> Option<&[u8]>
     ensures some { IfSome result (λ word. fields_left (option_copied rest.entry) ≡ word.now ∷ []) }
+    ensures filled { IfSome result (λ word. is_nothing word.now ≡ false) }
     ensures none { IfNone result (is_one (fields_left (option_copied rest.entry)) ≡ false) }
 {
     let text = rest?;
     let (word, behind) = split_field(text);
     match behind {
+        None if word.is_empty() => None,
         None => Some(word),
         Some(_) => None,
     }
@@ -81,5 +82,5 @@ pub(crate) fn read_statement(text: &[u8]) -> Option<Statement<'_>>
     let (keyword, rest) = split_field(text);
     let kind = kind_of(keyword)?;
     let (name, rest) = split_field(rest?);
-    statement_of(kind, name_of(name)?, rest)
+    statement_of(kind, plain_name(name)?, rest)
 }

@@ -1,4 +1,7 @@
 //! What a rule does with a packet that it matches (pf.conf(5), "pass", "block", "match" and ANCHORS).
+ghost use Rattle.std.specs.Prelude.{◌≡◌};
+ghost use Rattle.pf_rule.specs.Effect.{is_anchor};
+
 use crate::params::Params;
 use crate::state::{StateKind, StateOptions};
 use pf_base::{Name, Path};
@@ -29,6 +32,15 @@ pub enum Action {
     Match,
     /// The rules of an anchor are evaluated.
     Anchor(Call),
+}
+
+impl Action {
+    /// Whether it calls the rules of an anchor.
+    pub fn is_anchor(&self) -> bool
+        ensures { result ≡ is_anchor self.now }
+    {
+        matches!(self, Action::Anchor(_))
+    }
 }
 
 /// What a blocked packet's sender is told (pf.conf(5), "block").

@@ -4,18 +4,34 @@
 //! and read and write packets and answers as text.
 #![tactic(auto)]
 
+pub mod applying;
 pub mod criteria;
+mod criterion;
 pub mod effect;
+pub mod evaluation;
+pub mod members;
 pub mod packet;
 pub mod params;
+pub mod probe;
+pub mod reply;
 pub mod rule;
 pub mod state;
+pub mod testing;
 pub mod walk;
 
+pub use applying::{apply, effect_twice_is_once};
 pub use criteria::{AddrSet, AddrTest, Criteria, IfTest, TagTest};
 pub use effect::{Action, BlockKind, Call, Effect};
+pub use evaluation::{evaluate, last_matching_rule_decides};
+pub use members::{Members, NoTables};
 pub use packet::{Direction, Packet};
 pub use params::{Log, Params, Prios, Queues, Scrub};
+pub use probe::Probe;
+pub use reply::answer;
 pub use rule::Rule;
 pub use state::{Flush, Overload, Rate, StateKind, StateOptions, Track};
+pub use testing::{Tested, hit};
 pub use walk::{Answer, Decision, Marks, Walk};
+
+#[cfg(test)]
+mod tests;

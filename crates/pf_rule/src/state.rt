@@ -32,6 +32,24 @@ pub struct StateOptions {
     pub floating: bool,
 }
 
+impl StateOptions {
+    /// No option is given.
+    pub const NONE: StateOptions = StateOptions {
+        max: None,
+        source_track: None,
+        max_src_nodes: None,
+        max_src_states: None,
+        max_src_conn: None,
+        max_src_conn_rate: None,
+        overload: None,
+        sloppy: false,
+        no_sync: false,
+        pflow: false,
+        if_bound: false,
+        floating: false,
+    };
+}
+
 /// How sources are tracked.
 #[derive(Clone, Copy, Debug, PartialEq, Eq)]
 pub enum Track {

@@ -1,4 +1,7 @@
 //! A packet's way through a list of rules.
+ghost use Rattle.std.specs.Prelude.{◌≡◌};
+ghost use Rattle.pf_rule.specs.Opening.{opening_walk};
+
 use crate::effect::Action;
 use crate::packet::Packet;
 use crate::params::Params;
@@ -44,4 +47,27 @@ pub struct Answer {
 pub struct Marks {
     pub matched: bool,
     pub stop: bool,
+}
+
+impl Walk {
+    /// The walk before the first rule: the packet passes and makes no state, has the tag of its record
+    /// and no parameters, and no rule has matched.
+    pub fn begin(packet: &Packet) -> Walk
+        ensures { result ≡ opening_walk packet.now }
+    {
+        Walk {
+            packet: *packet,
+            tag: packet.tag,
+            params: Params::NONE,
+            last: Decision {
+                action: Action::Pass,
+                state: StateKind::None,
+                options: StateOptions::NONE,
+                params: Params::NONE,
+                label: None,
+            },
+            matched: false,
+            stop: false,
+        }
+    }
 }

@@ -1,5 +1,5 @@
 use Rattle.pf_host.proofs.OneFault.{apart, one_fault}
-use Rattle.pf_host.proofs.read.a_text_has_facts_or_one_fault.Goals as goal
+use Rattle.pf_host.proofs.read.facts_and_one_fault_exclude_each_other.Goals as goal
 
 pub returns-clause-apart : goal.returns-clause-apart
 returns-clause-apart c = apart

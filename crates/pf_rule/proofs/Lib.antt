@@ -1,0 +1,5 @@
+pub mod Decided
+pub mod Decisions
+pub mod Effects
+pub mod Founds
+pub mod Walks

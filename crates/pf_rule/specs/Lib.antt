@@ -1,0 +1,10 @@
+pub mod Answer
+pub mod Around
+pub mod Criteria
+pub mod Deciding
+pub mod Effect
+pub mod Hit
+pub mod Laying
+pub mod Opening
+pub mod Probe
+pub mod Walk

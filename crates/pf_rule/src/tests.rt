@@ -1,0 +1,517 @@
+use crate::*;
+use pf_addr::{Addr, DynIf, Ifaces, Prefix, Range, parse_addr, parse_prefix};
+use pf_base::{Family, Ledger, Name, Steps};
+use pf_ops::{IcmpType, Op16, Op32, OpKind, TcpFlags};
+use std::test::Fail;
+
+// A host whose interfaces are all in one group and have the addresses of one network.
+#[derive(Drop)]
+struct Host {
+    group: Name,
+    network: Prefix,
+}
+
+impl Ifaces for Host {
+    ghost use Rattle.std.specs.Prelude.{◌||◌};
+    ghost use Rattle.std.specs.Str.{bytes_eq};
+    ghost use Rattle.pf_addr.specs.Prefix.{contains};
+
+    ghost in_group = { λ host name iface. bytes_eq name iface || bytes_eq name host.group };
+
+    ghost dynamic = { λ host what addr. contains host.network addr };
+
+    fn in_group(&self, name: &Name, iface: &Name) -> bool {
+        name == iface || *name == self.group
+    }
+
+    fn dynamic(&self, _what: &DynIf, addr: &Addr) -> bool {
+        self.network.contains(addr)
+    }
+}
+
+// Each table has the addresses of one prefix.
+#[derive(Drop)]
+struct Tables(Prefix);
+
+impl Members for Tables {
+    ghost use Rattle.pf_addr.specs.Prefix.{contains};
+
+    ghost member = { λ tables what addr. contains tables.0 addr };
+
+    fn member(&self, _what: &AddrSet, addr: &Addr) -> bool {
+        self.0.contains(addr)
+    }
+}
+
+fn name(text: &str) -> Result<Name, Fail> {
+    Ok(Name::new(text.as_bytes()).ok_or("no name")?)
+}
+
+fn addr(text: &str) -> Result<Addr, Fail> {
+    Ok(parse_addr(text.as_bytes())?)
+}
+
+fn prefix(text: &str) -> Result<AddrSet, Fail> {
+    Ok(AddrSet::Prefix(parse_prefix(text.as_bytes())?))
+}
+
+fn make_host() -> Result<Host, Fail> {
+    Ok(Host {
+        group: name("egress")?,
+        network: parse_prefix(b"192.0.2.0/24")?,
+    })
+}
+
+fn make_tables() -> Result<Tables, Fail> {
+    Ok(Tables(parse_prefix(b"203.0.113.0/24")?))
+}
+
+const ANY: Criteria = Criteria {
+    iface: IfTest::Any,
+    direction: None,
+    family: None,
+    proto: None,
+    source: AddrTest::Any,
+    source_port: None,
+    target: AddrTest::Any,
+    target_port: None,
+    user: None,
+    group: None,
+    flags: None,
+    icmp: None,
+    tos: None,
+    prio: None,
+    tagged: TagTest::Any,
+};
+
+const BLOCK: Effect = Effect {
+    action: Action::Block(BlockKind::Return),
+    quick: false,
+    tag: None,
+    state: StateKind::None,
+    options: StateOptions::NONE,
+    params: Params::NONE,
+    label: None,
+};
+
+// The first packet of a TCP connection that comes in by em0.
+fn syn(source: &str, target: &str, port: u16) -> Result<Packet, Fail> {
+    Ok(Packet {
+        direction: Direction::In,
+        iface: name("em0")?,
+        proto: 6,
+        source: addr(source)?,
+        target: addr(target)?,
+        source_port: Some(1024),
+        target_port: Some(port),
+        flags: 2,
+        icmp_type: None,
+        icmp_code: None,
+        tos: 0,
+        prio: 3,
+        user: None,
+        group: None,
+        tag: None,
+    })
+}
+
+// What the test of a rule with these criteria finds at a packet.
+fn found(criteria: &Criteria, packet: &Packet) -> Result<Tested, Fail> {
+    let rule = Rule {
+        criteria: *criteria,
+        effect: BLOCK,
+    };
+    let mut steps = Steps::start();
+    Ok(hit(
+        &rule,
+        &Walk::begin(packet),
+        &make_tables()?,
+        &make_host()?,
+        &mut steps,
+    ))
+}
+
+// What is found, at a first packet for port 22, of criteria whose skip fields fail from this one on: from
+// 8 on only the type of service fails, and from 9 on nothing.
+fn found_from(field: u8) -> Result<Tested, Fail> {
+    let elsewhere = AddrTest::Test {
+        negated: false,
+        what: prefix("198.51.100/24")?,
+    };
+    let beyond = AddrTest::Test {
+        negated: false,
+        what: prefix("198.51.100/24")?,
+    };
+    let not_em0 = IfTest::On {
+        name: name("em0")?,
+        negated: true,
+    };
+    let www = Op16::make(OpKind::Equal, 80, 0);
+    let criteria = Criteria {
+        iface: if field == 0 { not_em0 } else { IfTest::Any },
+        direction: (field <= 1).then_some(Direction::Out),
+        family: (field <= 2).then_some(Family::Inet6),
+        proto: (field <= 3).then_some(17),
+        source: if field <= 4 { elsewhere } else { AddrTest::Any },
+        source_port: (field <= 5).then_some(www),
+        target: if field <= 6 { beyond } else { AddrTest::Any },
+        target_port: (field <= 7).then_some(www),
+        tos: (field <= 8).then_some(4),
+        ..ANY
+    };
+    let packet = syn("10.0.0.1", "192.0.2.10", 22)?;
+    Ok(found(&criteria, &packet)?)
+}
+
+#[test]
+fn the_first_failing_field_is_told(rt: HostRuntime) -> Result<(), Fail> {
+    for field in 0..8 {
+        let tested = found_from(field)?;
+        assert_eq!(rt; tested, Tested::Field(field));
+    }
+    let other = found_from(8)?;
+    assert_eq!(rt; other, Tested::Other);
+    let hit = found_from(9)?;
+    assert_eq!(rt; hit, Tested::Hit);
+    Ok(())
+}
+
+// Whether a test of the source with this set, and one with `!`, hit.
+fn from_set(what: AddrSet, source: &str) -> Result<(bool, bool), Fail> {
+    let packet = syn(source, source, 22)?;
+    let criteria = Criteria {
+        source: AddrTest::Test {
+            negated: false,
+            what,
+        },
+        ..ANY
+    };
+    let turned = Criteria {
+        source: AddrTest::Test {
+            negated: true,
+            what,
+        },
+        ..ANY
+    };
+    Ok((
+        found(&criteria, &packet)? == Tested::Hit,
+        found(&turned, &packet)? == Tested::Hit,
+    ))
+}
+
+#[test]
+fn addresses_are_sought_in_their_sets(rt: HostRuntime) -> Result<(), Fail> {
+    let range = AddrSet::Range(Range {
+        low: Addr::V4(0xcb00_7101),
+        high: Addr::V4(0xcb00_7109),
+    });
+    let em0 = AddrSet::Dynamic(DynIf {
+        name: name("em0")?,
+        network: false,
+        first: false,
+    });
+    let all = prefix("0/0")?;
+    let cases = [
+        (range, "203.0.113.9", true),
+        (range, "203.0.113.10", false),
+        (range, "2001:db8::1", false),
+        (all, "203.0.113.9", true),
+        (all, "2001:db8::1", false),
+        (AddrSet::Auto(0), "203.0.113.9", true),
+        (AddrSet::Auto(0), "192.0.2.10", false),
+        (em0, "192.0.2.10", true),
+        (em0, "203.0.113.9", false),
+    ];
+    for (what, source, inside) in cases {
+        assert_eq!(rt;
+            from_set(what, source)?,
+            (inside, !inside),
+            "{source} {what:?}"
+        );
+    }
+    Ok(())
+}
+
+#[test]
+fn users_are_known_of_tcp_and_udp_alone(rt: HostRuntime) -> Result<(), Fail> {
+    let packet = syn("10.0.0.1", "192.0.2.10", 22)?;
+    let criteria = Criteria {
+        user: Some(Op32::make(OpKind::Other, 0, 0)),
+        ..ANY
+    };
+    for (proto, user, want) in [
+        (6, Some(55), Tested::Hit),
+        (17, Some(55), Tested::Hit),
+        (1, Some(55), Tested::Other),
+        (6, Some(0), Tested::Other),
+        (6, None, Tested::Other),
+    ] {
+        let packet = Packet {
+            proto,
+            user,
+            ..packet
+        };
+        assert_eq!(rt; found(&criteria, &packet)?, want, "{proto} {user:?}");
+    }
+    Ok(())
+}
+
+#[test]
+fn flags_are_tested_of_tcp_alone(rt: HostRuntime) -> Result<(), Fail> {
+    let packet = syn("10.0.0.1", "192.0.2.10", 22)?;
+    let criteria = Criteria {
+        flags: Some(TcpFlags { set: 2, mask: 18 }),
+        ..ANY
+    };
+    for (proto, flags, want) in [
+        (6, 2, Tested::Hit),
+        (6, 66, Tested::Hit),
+        (6, 18, Tested::Other),
+        (6, 0, Tested::Other),
+        (17, 0, Tested::Hit),
+    ] {
+        let packet = Packet {
+            proto,
+            flags,
+            ..packet
+        };
+        assert_eq!(rt; found(&criteria, &packet)?, want, "{proto} {flags}");
+    }
+    Ok(())
+}
+
+#[test]
+fn types_are_tested_of_icmp_alone(rt: HostRuntime) -> Result<(), Fail> {
+    let packet = syn("10.0.0.1", "192.0.2.10", 22)?;
+    for (proto, code, icmp_code, want) in [
+        (1, None, Some(0), Tested::Hit),
+        (58, None, None, Tested::Hit),
+        (6, None, Some(0), Tested::Other),
+        (1, Some(1), Some(1), Tested::Hit),
+        (1, Some(1), Some(0), Tested::Other),
+        (1, Some(1), None, Tested::Other),
+    ] {
+        let echo = IcmpType {
+            family: Family::Inet,
+            kind: 8,
+            code,
+        };
+        let criteria = Criteria {
+            icmp: Some(echo),
+            ..ANY
+        };
+        let packet = Packet {
+            proto,
+            icmp_type: Some(8),
+            icmp_code,
+            ..packet
+        };
+        assert_eq!(rt;
+            found(&criteria, &packet)?,
+            want,
+            "{proto} {code:?} {icmp_code:?}"
+        );
+    }
+    Ok(())
+}
+
+// `block return`, `pass`, `block return in on ! lo0 proto tcp to port 6000:6010` and
+// `block return out log proto tcp user 55`.
+fn default_rules() -> Result<[Rule; 4], Fail> {
+    let x11 = Criteria {
+        direction: Some(Direction::In),
+        iface: IfTest::On {
+            name: name("lo0")?,
+            negated: true,
+        },
+        proto: Some(6),
+        target_port: Some(Op16::make(OpKind::Within, 6000, 6010)),
+        ..ANY
+    };
+    let build = Criteria {
+        direction: Some(Direction::Out),
+        proto: Some(6),
+        user: Some(Op32::make(OpKind::Equal, 55, 0)),
+        ..ANY
+    };
+    let first_syn = Criteria {
+        flags: Some(TcpFlags { set: 2, mask: 18 }),
+        ..ANY
+    };
+    let pass = Effect {
+        action: Action::Pass,
+        state: StateKind::Keep,
+        ..BLOCK
+    };
+    let mut logged = BLOCK;
+    logged.params.log.on = true;
+    Ok([
+        Rule {
+            criteria: ANY,
+            effect: BLOCK,
+        },
+        Rule {
+            criteria: first_syn,
+            effect: pass,
+        },
+        Rule {
+            criteria: x11,
+            effect: BLOCK,
+        },
+        Rule {
+            criteria: build,
+            effect: logged,
+        },
+    ])
+}
+
+// Whether the default rules pass a TCP packet, and whether they log it.
+fn default_passes(
+    direction: Direction,
+    iface: &str,
+    port: u16,
+    flags: u8,
+    user: Option<u32>,
+) -> Result<(bool, bool), Fail> {
+    let iface = name(iface)?;
+    let packet = syn("198.51.100.7", "192.0.2.10", port)?;
+    let packet = Packet {
+        direction,
+        iface,
+        flags,
+        user,
+        ..packet
+    };
+    let rules = default_rules()?;
+    let host = make_host()?;
+    let mut steps = Steps::start();
+    let decision = evaluate(&rules, &packet, &NoTables, &host, &mut steps).decision;
+    Ok((decision.action == Action::Pass, decision.params.log.on))
+}
+
+#[test]
+fn the_default_rules_decide(rt: HostRuntime) -> Result<(), Fail> {
+    for (direction, iface, port, flags, user, passes, logged) in [
+        (Direction::In, "em0", 22, 2, None, true, false),
+        (Direction::In, "em0", 6000, 2, None, false, false),
+        (Direction::In, "lo0", 6000, 2, None, true, false),
+        (Direction::In, "em0", 22, 18, None, false, false),
+        (Direction::Out, "em0", 80, 2, Some(55), false, true),
+        (Direction::Out, "em0", 80, 2, Some(1000), true, false),
+    ] {
+        let decided = default_passes(direction, iface, port, flags, user)?;
+        assert_eq!(rt;
+            decided,
+            (passes, logged),
+            "{iface} {port} {flags} {user:?}"
+        );
+    }
+    Ok(())
+}
+
+// Tests a rule at a probe of any type, and does what it does where it hits.
+fn probed<P: Probe<Ledger>>(probe: &mut P, rule: &Rule) -> Result<Tested, Fail> {
+    let mut steps = Steps::start();
+    let host = make_host()?;
+    let found = probe.test(rule, &NoTables, &host, &mut steps);
+    if let Tested::Hit = found
+        && !rule.effect.action.is_anchor()
+    {
+        probe.apply(rule);
+    }
+    Ok(found)
+}
+
+#[test]
+fn match_rules_set_tags_and_parameters(rt: HostRuntime) -> Result<(), Fail> {
+    let packet = Packet {
+        tag: Some(name("old")?),
+        ..syn("10.0.0.1", "192.0.2.10", 22)?
+    };
+    let mut walk = Walk::begin(&packet);
+    let mut effect = Effect {
+        action: Action::Match,
+        tag: Some(name("new")?),
+        ..BLOCK
+    };
+    effect.params.queue = Some(Queues {
+        first: name("bulk")?,
+        second: None,
+    });
+    effect.params.log.to = Some(name("pflog1")?);
+    let mut rule = Rule {
+        criteria: Criteria {
+            tagged: TagTest::Is {
+                name: name("old")?,
+                negated: false,
+            },
+            ..ANY
+        },
+        effect,
+    };
+    assert_eq!(rt; probed(&mut walk, &rule)?, Tested::Hit);
+    assert_eq!(rt; probed(&mut walk, &rule)?, Tested::Other);
+    rule.criteria.tagged = TagTest::Is {
+        name: name("old")?,
+        negated: true,
+    };
+    rule.effect = Effect {
+        action: Action::Block(BlockKind::Drop),
+        quick: true,
+        tag: None,
+        label: Some(name("spam")?),
+        ..BLOCK
+    };
+    assert_eq!(rt; probed(&mut walk, &rule)?, Tested::Hit);
+    let reply = answer(&walk);
+    assert_eq!(rt; reply.tag, Some(name("new")?));
+    assert_eq!(rt; reply.decision.action, Action::Block(BlockKind::Drop));
+    assert_eq!(rt; reply.decision.label, Some(name("spam")?));
+    assert_eq!(rt; reply.decision.params, effect.params);
+    Ok(())
+}
+
+// The marks of a probe, before and after one is set.
+fn marked<P: Probe<Ledger>>(probe: &mut P) -> (Marks, Marks) {
+    let first = probe.marks();
+    probe.set_marks(Marks {
+        matched: true,
+        stop: first.stop,
+    });
+    (first, probe.marks())
+}
+
+// Whether a probe is on the interface tun0 or on this one.
+fn skipped<P: Probe<Ledger>>(probe: &P, iface: &str) -> Result<bool, Fail> {
+    let names = [name("tun0")?, name(iface)?];
+    let host = make_host()?;
+    Ok(probe.skips(&names, &host))
+}
+
+// The marks of the walk of a packet on em0, and whether the packet is skipped.
+fn opened(skip: &str) -> Result<(Marks, Marks, bool), Fail> {
+    let iface = name("em0")?;
+    let packet = syn("10.0.0.1", "192.0.2.10", 22)?;
+    let packet = Packet {
+        direction: Direction::Out,
+        iface,
+        flags: 0,
+        user: None,
+        ..packet
+    };
+    let mut walk = Walk::begin(&packet);
+    let (first, second) = marked(&mut walk);
+    let skips = skipped(&walk, skip)?;
+    Ok((first, second, skips))
+}
+
+#[test]
+fn marks_and_skipped_interfaces(rt: HostRuntime) -> Result<(), Fail> {
+    for (skip, skips) in [("em0", true), ("egress", true), ("lo0", false)] {
+        let (first, second, found) = opened(skip)?;
+        assert!(rt; !first.matched && !first.stop);
+        assert!(rt; second.matched && !second.stop);
+        assert_eq!(rt; found, skips, "{skip}");
+    }
+    Ok(())
+}
