@@ -11,13 +11,6 @@ use Rattle.pf_record.specs.ParamText.{log_text, tag_text, queue_text, prio_text,
 use Rattle.pf_record.specs.Parts.{joined, word_if, with_number}
 use Rattle.pf_record.specs.StateText.{state_text}
 
--- the packet passes or is blocked
-abbrev pub is_decided : Action → Bool
-is_decided Pass = true
-is_decided (Block kind) = true
-is_decided Match = false
-is_decided (Anchor call) = false
-
 -- what the sender of a blocked packet is told (pf.conf(5), "block"); a ttl of 0 isn't printed
 unfoldable pub block_text : BlockKind → List ℕ
 block_text Drop = codes "drop"

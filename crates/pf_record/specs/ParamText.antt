@@ -1,4 +1,4 @@
--- How the parameters of a rule or an answer are printed (pf.conf(5), PARAMETERS and PACKET NORMALISATION).
+-- How the parameters of a rule or an answer are printed (pf.conf(5), PARAMETERS and TRAFFIC NORMALISATION).
 use Rattle.std.specs.Prelude.{ℕ, List, [], ◌∷◌, ◌++◌, Option, Some, None, if◌then◌else◌, codes, decimal}
 use Rattle.std.specs.Option.{option_map}
 use Rattle.pf_rule.specs.declared.params.Log.{Log}

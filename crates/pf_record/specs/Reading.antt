@@ -1,4 +1,5 @@
--- How a record is read: its words one after the other, the values of its keys, and then the faults among these.
+-- How the code reads a record: its words one after the other, the values of its keys, and then the faults among these. No public
+-- clause names this; the proofs tie it to Record and Keys.
 use Rattle.std.specs.Prelude.{◌≡◌, ℕ, Bool, true, false, ◌&&◌, not, List, [], ◌∷◌, drop, length, Option, Some, None, Result, Ok, Err, is_some, is_none, if◌then◌else◌, codes, nat_eq}
 use Rattle.std.specs.List.{slice_get, starts_with}
 use Rattle.std.specs.Option.{option_or, option_and_then, option_copied, ok_or}

@@ -2,11 +2,12 @@
 ghost use Rattle.std.specs.Prelude.{◌≡◌, ◌++◌, IsTrue, OnErr, OnOk, codes};
 ghost use Rattle.std.specs.Option.{option_map};
 ghost use Rattle.pf_record.specs.Appending.{Extends};
-ghost use Rattle.pf_record.specs.AnswerText.{answer_parts, answer_text, block_text, is_decided};
+ghost use Rattle.pf_record.specs.AnswerText.{answer_parts, answer_text, block_text};
 ghost use Rattle.pf_record.specs.Items.{spaced};
 ghost use Rattle.pf_record.specs.ParamText.{log_text, prio_text, queue_text, scrub_text, tag_text};
 ghost use Rattle.pf_record.specs.Parts.{joined, with_number, word_if};
 ghost use Rattle.pf_record.specs.StateText.{state_text};
+ghost use Rattle.pf_rule.specs.Effect.{is_deciding};
 
 use crate::params::{
     put_allow_opts, put_label, put_log, put_prio, put_queue, put_scrub, put_tag, put_tos,
@@ -45,7 +46,7 @@ fn put_icmp(out: &mut Vec<u8>, code: u8, code6: u8) -> Result<(), NoMemory>
 /// Appends what the sender of a blocked packet is told: `drop`, `return`, `return-rst` with the ttl where
 /// it isn't 0, or `return-icmp` with both codes. Without memory a front of this may be appended.
 #[tactic(auto, unfolding(crate::specs::AnswerText::block_text))]
-pub fn put_block_kind(out: &mut Vec<u8>, kind: BlockKind) -> Result<(), NoMemory>
+fn put_block_kind(out: &mut Vec<u8>, kind: BlockKind) -> Result<(), NoMemory>
     ensures ok { OnOk result (out.new.items ≡ out.old.items ++ block_text kind) }
     ensures kept { Extends out.old.items out.new.items }
 {
@@ -140,7 +141,7 @@ fn append_block(
 
 #[tactic(auto, unfolding(crate::specs::AnswerText::answer_text))]
 fn append_answer(out: &mut Vec<u8>, answer: &Answer) -> Result<(), NoMemory>
-    requires { IsTrue (is_decided answer.now.decision.action) }
+    requires { IsTrue (is_deciding answer.now.decision.action) }
     ensures ok { OnOk result (out.new.items ≡ out.old.items ++ answer_text answer.now) }
     ensures kept { Extends out.old.items out.new.items }
 {
@@ -159,7 +160,7 @@ fn append_answer(out: &mut Vec<u8>, answer: &Answer) -> Result<(), NoMemory>
 /// Appends the answer's text: `skip`, or `pass` with its state or `block` with its kind, and then what else
 /// stands in it, with single spaces. Without memory `out` is as before.
 pub fn put_answer(out: &mut Vec<u8>, answer: &Answer) -> Result<(), NoMemory>
-    requires { IsTrue (is_decided answer.now.decision.action) }
+    requires { IsTrue (is_deciding answer.now.decision.action) }
     ensures ok { OnOk result (out.new.items ≡ out.old.items ++ answer_text answer.now) }
     ensures err { OnErr result (out.new.items ≡ out.old.items) }
 {

@@ -1,6 +1,6 @@
 //! The record of a packet, read from its text, and the answer to a packet, printed as text.
-//! It stands on pf_base, pf_addr, pf_ops and pf_rule. The layers above read records and append answers;
-//! the printer of rules takes the texts of the parts that rules and answers share.
+//! It stands on pf_base, pf_addr, pf_ops and pf_rule, and on itoa for decimal numbers. The layers above read
+//! records and append answers.
 #![tactic(auto)]
 
 mod answer;
@@ -15,13 +15,9 @@ mod text;
 mod values;
 mod words;
 
-pub use answer::{put_answer, put_block_kind};
+pub use answer::put_answer;
 pub use field::{Field, PacketFault};
-pub use params::{
-    put_allow_opts, put_label, put_log, put_prio, put_queue, put_scrub, put_tag, put_tos,
-};
 pub use record::read_packet;
-pub use state::put_state;
 
 #[cfg(test)]
 mod tests;
