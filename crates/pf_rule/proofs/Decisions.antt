@@ -1,6 +1,6 @@
 -- Which rule has decided at the end of a walk.
 use Rattle.std.proofs.Common.{◌≡◌, Bool, true, false, cond, List, [], ◌∷◌, ◌++◌, refl, ap, sym, ◌∙◌, append_assoc}
-use Rattle.std.specs.Prelude.{IsTrue, ◌&&◌, ◌||◌}
+use Rattle.std.specs.Prelude.{◌||◌}
 use Rattle.pf_rule.specs.Around.{Around}
 use Rattle.pf_rule.specs.Deciding.{Decides, NoneDecides}
 use Rattle.pf_rule.specs.Effect.{decision_of, effect_on, is_deciding}

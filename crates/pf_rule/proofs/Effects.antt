@@ -1,15 +1,10 @@
 -- Effects of rules on walks.
-use Rattle.std.proofs.Common.{◌≡◌, Bool, true, false, ◌||◌, Option, Some, None, refl, ap, sym, ◌∙◌}
+use Rattle.std.proofs.Common.{◌≡◌, Bool, true, false, ◌||◌, Option, Some, None, refl}
 use Rattle.std.specs.Option.{option_or}
 use Rattle.pf_rule.specs.Effect.{acted_on, effect_on, is_anchor, is_deciding, decision_of}
-use Rattle.pf_rule.specs.Laying.{laid_over, log_over, scrub_over}
 use Rattle.pf_rule.specs.declared.effect.Action.{Action}
 use Rattle.pf_rule.specs.declared.effect.Action.TheVariants.{Pass, Block, Match, Anchor}
 use Rattle.pf_rule.specs.declared.effect.Effect.{Effect}
-use Rattle.pf_rule.specs.declared.params.Log.{Log}
-use Rattle.pf_rule.specs.declared.params.Params.{Params}
-use Rattle.pf_rule.specs.declared.params.Scrub.{Scrub}
-use Rattle.pf_rule.specs.declared.walk.Decision.{Decision}
 use Rattle.pf_rule.specs.declared.walk.Walk.{Walk}
 
 -- what replaces twice replaces once
@@ -23,14 +18,10 @@ set_twice true new = refl
 set_twice false true = refl
 set_twice false false = refl
 
--- parameters laid twice are laid once
-laid_twice : (new old : Params) → laid_over new (laid_over new old) ≡ laid_over new old
-laid_twice new old = simp (or_twice, set_twice)
-
 acted_twice : (action : Action) (effect : Effect) (walk : Walk) → acted_on action effect (acted_on action effect walk) ≡ acted_on action effect walk
 acted_twice Pass effect walk = simp (or_twice, set_twice)
 acted_twice (Block kind) effect walk = simp (or_twice, set_twice)
-acted_twice Match effect walk = simp (laid_twice, or_twice, set_twice)
+acted_twice Match effect walk = simp (or_twice, set_twice)
 acted_twice (Anchor call) effect walk = refl
 
 -- an effect twice is the effect once

@@ -1,13 +1,10 @@
 -- What the test of a rule finds, by its first failing field.
-use Rattle.std.proofs.Common.{◌≡◌, ℕ, ◌+◌, Bool, true, false, not, ◌&&◌, cond, Option, Some, None, List, [], ◌∷◌, refl, ap, sym, ◌∙◌}
-use Rattle.std.specs.List.{list_all, position_from}
+use Rattle.std.proofs.Common.{◌≡◌, ℕ, ◌+◌, Bool, true, false, not, ◌&&◌, cond, Some, None, List, [], ◌∷◌, refl, ap}
+use Rattle.std.specs.List.{position_from}
 use Rattle.pf_rule.specs.Around.{Around}
 use Rattle.pf_rule.specs.Hit.{all_hold, failing_field, fails_at, hits, hits_at, missed_at, other_tests, skip_tests, tested_at}
-use Rattle.pf_rule.specs.declared.criteria.Criteria.{Criteria}
-use Rattle.pf_rule.specs.declared.packet.Packet.{Packet}
 use Rattle.pf_rule.specs.declared.rule.Rule.{Rule}
-use Rattle.pf_rule.specs.declared.testing.Tested.{Tested}
-use Rattle.pf_rule.specs.declared.testing.Tested.TheVariants.{Hit, Field, Other}
+use Rattle.pf_rule.specs.declared.testing.Tested.TheVariants.{Hit}
 use Rattle.pf_rule.specs.declared.walk.Walk.{Walk}
 
 -- a test that holds is passed over

@@ -10,7 +10,6 @@ use Rattle.pf_base.specs.declared.kind.Family.{Family}
 use Rattle.pf_base.specs.declared.kind.Family.TheVariants.{Inet, Inet6}
 use Rattle.pf_ops.specs.Numbers.{in_numbers}
 use Rattle.pf_ops.specs.declared.flags.IcmpType.{IcmpType}
-use Rattle.pf_ops.specs.declared.flags.TcpFlags.{TcpFlags}
 use Rattle.pf_ops.specs.declared.numbers.Numbers.{Numbers}
 use Rattle.pf_rule.specs.Around.{Around}
 use Rattle.pf_rule.specs.declared.criteria.AddrSet.{AddrSet}
