@@ -2,11 +2,12 @@
 use Rattle.std.proofs.Common.{◌≡◌, Bool, true, false, List, [], ◌∷◌, ◌++◌, Option, Some, None, refl, ap, sym, ◌∙◌, append_assoc, arith}
 use Rattle.std.specs.Prelude.{nat_le}
 use Rattle.std.proofs.lemmas.Bool.{leb-true, leb-false}
-use Rattle.pf_lexer.specs.declared.token.Token.{Token as TokenOf}
-use Rattle.pf_lexer.specs.declared.token.Fault.{Fault as FaultOf}
-use Rattle.pf_lexer.specs.declared.token.Lexeme.{Lexeme}
-use Rattle.pf_lexer.specs.declared.token.Lexeme.TheVariants.{Token, Fault}
-use Rattle.pf_lexer.specs.Faults.{decided, earlier, or_earlier, rank, token_faults}
+use Rattle.pf_token.specs.declared.token.Token.{Token as TokenOf}
+use Rattle.pf_token.specs.declared.token.Fault.{Fault as FaultOf}
+use Rattle.pf_token.specs.declared.token.Lexeme.{Lexeme}
+use Rattle.pf_token.specs.declared.token.Lexeme.TheVariants.{Token, Fault}
+use Rattle.pf_lexer.specs.Faults.{decided, earlier, or_earlier, token_faults}
+use Rattle.pf_token.specs.Kinds.{rank}
 
 -- of three the same one decides, however they are grouped
 three : (f g h : FaultOf) (a b c : Bool) → nat_le (rank f.cause) (rank g.cause) ≡ a → nat_le (rank g.cause) (rank h.cause) ≡ b → nat_le (rank f.cause) (rank h.cause) ≡ c

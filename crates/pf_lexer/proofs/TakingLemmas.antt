@@ -1,19 +1,19 @@
 -- What each kind of token makes of a statement.
-use Rattle.std.proofs.Common.{◌≡◌, ℕ, ◌+◌, ◌-◌, ◌<◌, ◌≤◌, Bool, true, false, cond, List, [], ◌∷◌, ◌++◌, Option, Some, None, length, fold, refl, ap, sym, ◌∙◌, length-append, arith}
+use Rattle.std.proofs.Common.{◌≡◌, ℕ, ◌+◌, ◌-◌, ◌<◌, ◌≤◌, Bool, true, false, cond, List, [], ◌∷◌, ◌++◌, Option, Some, None, length, fold, refl, ap, ◌∙◌, length-append, arith}
 use Rattle.std.specs.Prelude.{◌&&◌, OnSome}
-use Rattle.pf_lexer.specs.Reading.{weight}
+use Rattle.pf_token.specs.Reading.{weight}
 use Rattle.std.proofs.lemmas.Bool.{and_parts, both_ways}
-use Rattle.pf_lexer.specs.declared.cell.Cell.{Cell}
+use Rattle.pf_token.specs.declared.cell.Cell.{Cell}
 use Rattle.pf_lexer.specs.declared.statement.Close.TheVariants.{Line, Body, Long}
 use Rattle.pf_lexer.specs.declared.statement.Turn.TheVariants.{Closed, Seen}
-use Rattle.pf_lexer.specs.declared.token.TokenKind.{TokenKind}
-use Rattle.pf_lexer.specs.declared.token.TokenKind.TheVariants.{Word, Quoted, Sign, Newline}
-use Rattle.pf_lexer.specs.declared.token.Lexeme.{Lexeme}
-use Rattle.pf_lexer.specs.declared.token.Lexeme.TheVariants.{Token, Fault}
-use Rattle.pf_lexer.specs.Pieces.{Next}
-use Rattle.pf_lexer.specs.Statements.{at_newline, skipped, at_body, too_long, taken, NoNewline, begins_anchor, depth_after, depth_of, is_byte, is_newline, is_newline_kind, is_sign, is_sign_kind, most_tokens}
+use Rattle.pf_token.specs.declared.token.TokenKind.{TokenKind}
+use Rattle.pf_token.specs.declared.token.TokenKind.TheVariants.{Word, Quoted, Sign, Newline}
+use Rattle.pf_token.specs.declared.token.Lexeme.{Lexeme}
+use Rattle.pf_token.specs.declared.token.Lexeme.TheVariants.{Token, Fault}
+use Rattle.pf_token.specs.Pieces.{Next}
+use Rattle.pf_lexer.specs.Statements.{at_newline, skipped, at_body, too_long, taken, NoNewline, begins_anchor, depth_after, depth_of, most_tokens}
+use Rattle.pf_token.specs.Kinds.{is_byte, is_newline, is_newline_kind, is_sign, is_sign_kind}
 use Rattle.pf_lexer.specs.Taking.{Views, IsTurn, is_newline_view, view_weight}
-use Rattle.pf_lexer.proofs.Tokens.{next_one, no_next}
 
 -- no more list braces are open than there are tokens
 depth_fold : (depth : ℕ) (lexemes : List Lexeme) → fold depth_after depth lexemes ≤ depth + length lexemes
@@ -38,6 +38,10 @@ pub sign_no_newline : (byte : ℕ) (lexeme : Lexeme) → is_sign byte lexeme ≡
 sign_no_newline byte (Token token) e = kind_no_newline token.kind (and_parts (is_sign_kind token.kind) (is_byte byte token.text) e).0
 sign_no_newline byte (Fault fault) e = refl
 
+-- no other token comes next than the one in view
+abbrev pub SeesOnly : (List ℕ → Option (List ℕ)) → List Cell → Option Lexeme → Type 0
+SeesOnly values cells view = (lexeme : Lexeme) (after : List Cell) → Next values cells lexeme after → view ≡ Some lexeme
+
 module _ (values : List ℕ → Option (List ℕ)) (before : List Lexeme) (lexeme : Lexeme) (cells after : List Cell) where
   pub turn_line : is_newline lexeme ≡ true → depth_of before ≡ 0 → IsTurn values before before lexeme cells (Closed Line) cells
   turn_line newline none = λ start comes. at_newline comes newline none
@@ -54,9 +58,9 @@ module _ (values : List ℕ → Option (List ℕ)) (before : List Lexeme) (lexem
   newline_comes None views is = absurd cc
   newline_comes (Some newline) views is = (newline, views, is)
 
-  no_newline_comes : (view : Option Lexeme) → Views values cells view after → is_newline_view view ≡ false → NoNewline values cells
-  no_newline_comes None views is = λ other rest next. absurd (no_next values views.0 next)
-  no_newline_comes (Some seen) views is = λ other rest next. ap is_newline (sym (next_one values views next).0) ∙ is
+  no_newline_comes : (view : Option Lexeme) → SeesOnly values cells view → is_newline_view view ≡ false → NoNewline values cells
+  no_newline_comes None only is = λ other rest next. let none = only other rest next in absurd cc
+  no_newline_comes (Some seen) only is = λ other rest next. let same = only other rest next in let one : other ≡ seen = cc in ap is_newline one ∙ is
 
   pub turn_body : begins_anchor before ≡ true → is_sign 123 lexeme ≡ true → (view : Option Lexeme) → Views values cells view after → is_newline_view view ≡ true → IsTurn values before before lexeme cells (Closed Body) after
   turn_body anchor brace view views is = λ start comes.
@@ -64,8 +68,8 @@ module _ (values : List ℕ → Option (List ℕ)) (before : List Lexeme) (lexem
       at_body anchor comes brace newline.1 newline.2
 
   -- a token that opens no body
-  no_body_seen : (view : Option Lexeme) → Views values cells view after → is_newline_view view ≡ false → (begins_anchor before && is_sign 123 lexeme) ≡ true → NoNewline values cells
-  no_body_seen view views is opens = no_newline_comes view views is
+  no_body_seen : (view : Option Lexeme) → SeesOnly values cells view → is_newline_view view ≡ false → (begins_anchor before && is_sign 123 lexeme) ≡ true → NoNewline values cells
+  no_body_seen view only is opens = no_newline_comes view only is
 
   no_body_here : (begins_anchor before && is_sign 123 lexeme) ≡ false → (begins_anchor before && is_sign 123 lexeme) ≡ true → NoNewline values cells
   no_body_here closed opens = absurd (both_ways (begins_anchor before && is_sign 123 lexeme) closed opens)
@@ -83,11 +87,11 @@ module _ (values : List ℕ → Option (List ℕ)) (before : List Lexeme) (lexem
   }
 
   -- a `{` with no newline next to it
-  pub brace_long : is_newline lexeme ≡ false → (view : Option Lexeme) → Views values cells view after → is_newline_view view ≡ false → length before ≡ most_tokens → IsTurn values before (before ++ lexeme ∷ []) lexeme cells (Closed Long) after
-  brace_long newline view views is many = turn_long newline (no_body_seen view views is) after many
+  pub brace_long : is_newline lexeme ≡ false → (view : Option Lexeme) → SeesOnly values cells view → is_newline_view view ≡ false → length before ≡ most_tokens → IsTurn values before (before ++ lexeme ∷ []) lexeme cells (Closed Long) after
+  brace_long newline view only is many = turn_long newline (no_body_seen view only is) after many
 
-  pub brace_taken : is_newline lexeme ≡ false → (view : Option Lexeme) → Views values cells view after → is_newline_view view ≡ false → length before < most_tokens → IsTurn values before (before ++ lexeme ∷ []) lexeme cells (Seen view) after
-  brace_taken newline view views is few = turn_taken newline (no_body_seen view views is) few view views
+  pub brace_taken : is_newline lexeme ≡ false → (view : Option Lexeme) → Views values cells view after → SeesOnly values cells view → is_newline_view view ≡ false → length before < most_tokens → IsTurn values before (before ++ lexeme ∷ []) lexeme cells (Seen view) after
+  brace_taken newline view views only is few = turn_taken newline (no_body_seen view only is) few view views
 
   -- any other token
   pub token_long : is_newline lexeme ≡ false → (begins_anchor before && is_sign 123 lexeme) ≡ false → length before ≡ most_tokens → IsTurn values before (before ++ lexeme ∷ []) lexeme cells (Closed Long) cells

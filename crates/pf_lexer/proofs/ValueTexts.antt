@@ -3,8 +3,9 @@ use Rattle.std.proofs.Common.{◌≡◌, ℕ, ◌+◌, ◌<◌, ◌≤◌, true,
 use Rattle.std.specs.Prelude.{nat_lt}
 use Rattle.std.proofs.lemmas.Bool.{lt-ltb, le-ltb}
 use Rattle.std.proofs.lemmas.List.{drop_more}
-use Rattle.pf_lexer.specs.declared.token.Lexeme.{Lexeme}
-use Rattle.pf_lexer.specs.Faults.{joined, most_bytes, text_of}
+use Rattle.pf_token.specs.declared.token.Lexeme.{Lexeme}
+use Rattle.pf_lexer.specs.Faults.{joined, most_bytes}
+use Rattle.pf_token.specs.Kinds.{text_of}
 use Rattle.pf_lexer.specs.Taking.{spaced}
 
 -- the bytes of the texts, with one more for each

@@ -1,58 +1,16 @@
 -- How tokens make statements. pf.conf(5), its introduction and ANCHORS
-use Rattle.std.specs.Prelude.{◌≡◌, ℕ, ◌+◌, ◌-◌, ◌<◌, Bool, true, false, ◌&&◌, ◌==◌, List, [], ◌∷◌, ◌++◌, Option, length, fold, nat_eq, codes, if◌then◌else◌}
-use Rattle.std.specs.Cmp.Lexicographic.{pointwise}
-use Rattle.pf_lexer.specs.declared.cell.Cell.{Cell}
+use Rattle.std.specs.Prelude.{◌≡◌, ℕ, ◌+◌, ◌-◌, ◌<◌, Bool, true, false, ◌&&◌, List, [], ◌∷◌, ◌++◌, Option, length, fold, codes, if◌then◌else◌}
+use Rattle.pf_token.specs.declared.cell.Cell.{Cell}
 use Rattle.pf_lexer.specs.declared.statement.Close.{Close}
 use Rattle.pf_lexer.specs.declared.statement.Close.TheVariants.{End, Line, Body, Long}
-use Rattle.pf_lexer.specs.declared.token.TokenKind.{TokenKind}
-use Rattle.pf_lexer.specs.declared.token.TokenKind.TheVariants.{Word, Quoted, Sign, Newline}
-use Rattle.pf_lexer.specs.declared.token.Lexeme.{Lexeme}
-use Rattle.pf_lexer.specs.declared.token.Lexeme.TheVariants.{Token, Fault}
-use Rattle.pf_lexer.specs.Pieces.{Next, NoMore}
-
-abbrev pub is_newline_kind : TokenKind → Bool
-is_newline_kind Word = false
-is_newline_kind Quoted = false
-is_newline_kind Sign = false
-is_newline_kind Newline = true
-
-abbrev pub is_sign_kind : TokenKind → Bool
-is_sign_kind Word = false
-is_sign_kind Quoted = false
-is_sign_kind Sign = true
-is_sign_kind Newline = false
-
-abbrev pub is_word_kind : TokenKind → Bool
-is_word_kind Word = true
-is_word_kind Quoted = false
-is_word_kind Sign = false
-is_word_kind Newline = false
-
--- a newline. A token with a fault is none, and no sign either: it counts as a word.
-abbrev pub is_newline : Lexeme → Bool
-is_newline (Token token) = is_newline_kind token.kind
-is_newline (Fault fault) = false
-
--- the text is this one byte
-abbrev pub is_byte : ℕ → List ℕ → Bool
-is_byte byte [] = false
-is_byte byte (first ∷ []) = first == byte
-is_byte byte (first ∷ next ∷ rest) = false
-
--- this sign
-abbrev pub is_sign : ℕ → Lexeme → Bool
-is_sign byte (Token token) = is_sign_kind token.kind && is_byte byte token.text
-is_sign byte (Fault fault) = false
-
--- the word `anchor`
-abbrev pub is_anchor : Lexeme → Bool
-is_anchor (Token token) = is_word_kind token.kind && pointwise nat_eq token.text (codes "anchor")
-is_anchor (Fault fault) = false
+use Rattle.pf_token.specs.declared.token.Lexeme.{Lexeme}
+use Rattle.pf_token.specs.Kinds.{is_bare, is_newline, is_sign}
+use Rattle.pf_token.specs.Pieces.{Next, NoMore}
 
 -- `anchor` is the first token
 abbrev pub begins_anchor : List Lexeme → Bool
 begins_anchor [] = false
-begins_anchor (first ∷ rest) = is_anchor first
+begins_anchor (first ∷ rest) = is_bare (codes "anchor") first
 
 -- how many list braces are open behind one more token: a `}` where none is open closes nothing
 abbrev pub depth_after : ℕ → Lexeme → ℕ

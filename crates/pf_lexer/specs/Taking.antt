@@ -1,15 +1,15 @@
 -- How the code goes through a statement, token by token. proofs/ has how this leads to its end in specs/Statements.
 use Rattle.std.specs.Prelude.{◌≡◌, ℕ, ◌+◌, ◌≤◌, Bool, true, false, List, [], ◌∷◌, ◌++◌, Option, Some, None, MatchOption, length}
-use Rattle.pf_lexer.specs.declared.cell.Cell.{Cell}
+use Rattle.pf_token.specs.declared.cell.Cell.{Cell}
 use Rattle.pf_lexer.specs.declared.statement.Close.{Close}
 use Rattle.pf_lexer.specs.declared.statement.Close.TheVariants.{End, Line, Body, Long}
 use Rattle.pf_lexer.specs.declared.statement.Turn.{Turn}
 use Rattle.pf_lexer.specs.declared.statement.Turn.TheVariants.{Closed, Seen}
-use Rattle.pf_lexer.specs.declared.token.Lexeme.{Lexeme}
-use Rattle.pf_lexer.specs.Faults.{text_of}
-use Rattle.pf_lexer.specs.Pieces.{Next, NoMore}
-use Rattle.pf_lexer.specs.Reading.{weight}
-use Rattle.pf_lexer.specs.Statements.{Ends, is_newline, most_tokens}
+use Rattle.pf_token.specs.declared.token.Lexeme.{Lexeme}
+use Rattle.pf_token.specs.Kinds.{is_newline, text_of}
+use Rattle.pf_token.specs.Pieces.{Next, NoMore}
+use Rattle.pf_token.specs.Reading.{weight}
+use Rattle.pf_lexer.specs.Statements.{Ends, most_tokens}
 
 -- what is left behind a statement: of one that is too long nothing more is read
 abbrev pub rest_after : Close → List Cell → List Cell

@@ -1,79 +1,26 @@
-//! Macro definitions, pf.conf(5), MACROS, and which fault of a statement decides.
+//! Macro definitions and includes, pf.conf(5), and which fault of a statement decides.
 ghost use Rattle.std.specs.Prelude.{◌≡◌, ◌<◌, ◌++◌, Some, IfOk, OnOk, length, nat_lt};
 ghost use Rattle.std.specs.List.{list_all, list_any};
 ghost use Rattle.std.specs.Option.{option_map};
-ghost use Rattle.pf_lexer.specs.Bytes.{is_name_byte};
-ghost use Rattle.pf_lexer.specs.Faults.{decided, definition_faults, definition_of, faults_of, has_form, is_fault, is_large, is_macro_name, is_text, joined, most_bytes, or_earlier, place_of, rank, text_of};
+ghost use Rattle.pf_token.specs.Bytes.{is_name_byte};
+ghost use Rattle.pf_lexer.specs.Faults.{decided, definition_faults, definition_of, faults_of, file_named, has_form, include_faults, include_of, is_file_name, is_large, is_macro_name, joined, most_bytes, names_file, or_earlier};
+ghost use Rattle.pf_token.specs.Kinds.{is_fault, is_text, place_of, rank, text_of};
 ghost use Rattle.pf_lexer.specs.Taking.{spaced};
 
-use crate::byte::is_name_byte;
 use crate::statement::Close;
-use crate::token::{Cause, Fault, Lexeme, Token, TokenKind};
 use pf_base::{NoMemory, Place};
+use pf_token::byte::is_name_byte;
+use pf_token::{Cause, Fault, Lexeme, Token, TokenKind};
 use std::alloc::Global;
 
 /// The most bytes of a macro's value.
 const MOST_BYTES: usize = 8192;
 
-impl Lexeme {
-    /// Whether it is a word or a string. A token with a fault counts as one.
-    fn is_text(&self) -> bool
-        ensures { result ≡ is_text self.now }
-    {
-        match self {
-            Lexeme::Token(token) => {
-                token.kind == TokenKind::Word || token.kind == TokenKind::Quoted
-            }
-            Lexeme::Fault(_) => true,
-        }
-    }
+/// The most bytes of a file's name.
+const MOST_NAME: usize = 255;
 
-    /// Whether it is a fault in the place of a token.
-    fn is_fault(&self) -> bool
-        ensures { result ≡ is_fault self.now }
-    {
-        match self {
-            Lexeme::Token(_) => false,
-            Lexeme::Fault(_) => true,
-        }
-    }
-
-    /// Its text. A fault has none.
-    fn text(&self) -> &[u8]
-        ensures { result.now ≡ text_of self.now }
-    {
-        match self {
-            Lexeme::Token(token) => token.text.items(),
-            Lexeme::Fault(_) => &[],
-        }
-    }
-
-    /// Where it stands.
-    fn place(&self) -> Place
-        ensures { result ≡ place_of self.now }
-    {
-        match self {
-            Lexeme::Token(token) => token.place,
-            Lexeme::Fault(fault) => fault.place,
-        }
-    }
-}
-
-impl Cause {
-    /// Its place in the order in which the kinds of faults are tried.
-    fn rank(&self) -> u8
-        ensures { result ≡ rank self.now }
-    {
-        match self {
-            Cause::BadByte => 0,
-            Cause::Unterminated => 1,
-            Cause::MacroUndefined(_) => 2,
-            Cause::MacroName => 3,
-            Cause::TooLarge => 4,
-            Cause::Syntax => 5,
-        }
-    }
-}
+/// The most includes that are open, one inside the other.
+const MOST_INCLUDES: usize = 16;
 
 /// The name of a definition, and what follows its `=`. None where the statement doesn't begin with a word and `=`.
 pub fn definition(lexemes: &[Lexeme]) -> Option<(&Token, &[Lexeme])>
@@ -88,6 +35,54 @@ pub fn definition(lexemes: &[Lexeme]) -> Option<(&Token, &[Lexeme])>
             }
         }
         _ => None,
+    }
+}
+
+/// What follows the word of an include, and where it stands. None where the statement is a definition, or doesn't begin
+/// with the word `include`.
+pub fn include(lexemes: &[Lexeme]) -> Option<(Place, &[Lexeme])>
+    ensures { option_map (λ parts. record { place = parts.0; names = parts.1.now }) result ≡ include_of lexemes.now }
+{
+    if definition(lexemes).is_some() {
+        return None;
+    }
+    match lexemes {
+        [first, names @ ..] if first.is_bare(b"include") => Some((first.place(), names)),
+        _ => None,
+    }
+}
+
+/// Whether it may name a file. A token with a fault may.
+fn is_file_name(lexeme: &Lexeme) -> bool
+    ensures { result ≡ is_file_name lexeme.now }
+{
+    match lexeme {
+        Lexeme::Token(_) => {
+            let length = lexeme.text().len();
+            lexeme.is_text() && length >= 1 && length <= MOST_NAME
+        }
+        Lexeme::Fault(_) => true,
+    }
+}
+
+/// Whether what follows the word of an include is one file's name.
+fn names_file(names: &[Lexeme]) -> bool
+    ensures { result ≡ names_file names.now }
+{
+    match names {
+        [name] => is_file_name(name),
+        _ => false,
+    }
+}
+
+/// The name of the file that a statement includes, if it is an include.
+pub fn include_name(lexemes: &[Lexeme]) -> Option<&[u8]>
+    ensures { option_map (λ name. name.now) result ≡ option_map file_named (include_of lexemes.now) }
+{
+    let (_, names) = include(lexemes)?;
+    match names {
+        [name, ..] => Some(name.text()),
+        [] => Some(&[]),
     }
 }
 
@@ -207,6 +202,26 @@ fn definition_fault(lexemes: &[Lexeme], close: Close) -> Option<Fault>
     None
 }
 
+/// The fault of an include inside so many includes that decides.
+fn include_fault(lexemes: &[Lexeme], includes: usize) -> Option<Fault>
+    ensures { result ≡ decided (include_faults includes (include_of lexemes.now)) }
+{
+    let (place, names) = include(lexemes)?;
+    if includes >= MOST_INCLUDES {
+        return Some(Fault {
+            cause: Cause::IncludeDepth,
+            place,
+        });
+    }
+    if !names_file(names) {
+        return Some(Fault {
+            cause: Cause::Syntax,
+            place,
+        });
+    }
+    None
+}
+
 /// The fault that decides among one so far and a later one.
 fn or_earlier(so_far: Option<Fault>, fault: Fault) -> Fault
     ensures { Some result ≡ or_earlier so_far (Some fault) }
@@ -223,11 +238,21 @@ fn or_earlier(so_far: Option<Fault>, fault: Fault) -> Fault
     }
 }
 
-/// The fault of a statement that decides, or None where it has none.
-pub fn decided_fault(lexemes: &[Lexeme], close: Close) -> Option<Fault>
-    ensures { result ≡ decided (faults_of lexemes.now close) }
+/// The fault of a definition or an include that decides. No statement is both.
+fn form_fault(lexemes: &[Lexeme], close: Close, includes: usize) -> Option<Fault>
+    ensures { result ≡ decided (definition_faults (definition_of lexemes.now) close ++ include_faults includes (include_of lexemes.now)) }
 {
-    let mut decided = definition_fault(lexemes, close);
+    match definition_fault(lexemes, close) {
+        Some(fault) => Some(fault),
+        None => include_fault(lexemes, includes),
+    }
+}
+
+/// The fault of a statement inside so many includes that decides, or None where it has none.
+pub fn decided_fault(lexemes: &[Lexeme], close: Close, includes: usize) -> Option<Fault>
+    ensures { result ≡ decided (faults_of includes lexemes.now close) }
+{
+    let mut decided = form_fault(lexemes, close, includes);
     for lexeme in lexemes {
         match lexeme {
             Lexeme::Token(_) => {}

@@ -1,25 +1,23 @@
-//! The tokens of a configuration, its macros, and the statements of its files, pf.conf(5). It stands on pf_base.
-//! The layer above makes macros and takes statements: their tokens with places, whether a body follows, and the first fault.
+//! The statements of a unit of configuration files, pf.conf(5), and what a load has read. It stands on pf_base, pf_source and
+//! pf_token. The layer above lends the files and what was read so far, begins a lexer for each unit, and takes its statements one
+//! by one: their tokens with places, whether a body follows, and the first fault.
 #![tactic(auto)]
 
-mod byte;
-mod cell;
-mod cells;
+pub mod deed;
 mod definition;
-pub mod lexemes;
-pub mod macros;
-mod pieces;
-mod reader;
+mod failure;
+pub mod fault;
+pub mod laws;
+pub mod lexer;
+pub mod reads;
 mod statement;
-mod strings;
-pub mod token;
 pub mod unit;
-mod uses;
 
-pub use lexemes::tokens_of;
-pub use macros::{Define, Macros};
-pub use token::{Cause, Fault, Lexeme, Token, TokenKind};
-pub use unit::{FileStatements, Statement, statements_of};
+pub use deed::Statement;
+pub use fault::LexFault;
+pub use lexer::{Lexer, UnitStatements, read_unit};
+pub use pf_token::{Cause, Define, Fault, Macros, Token, TokenKind};
+pub use reads::{ReadFile, Reads, ReadsFault};
 
 #[cfg(test)]
 mod tests;

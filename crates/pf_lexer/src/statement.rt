@@ -1,17 +1,15 @@
 //! Where statements end, pf.conf(5): at newlines outside list braces, and where an anchor's body begins.
 ghost use Rattle.std.specs.Prelude.{◌≡◌, ℕ, ◌+◌, ◌-◌, ◌<◌, ◌≤◌, ◌++◌, ◌∷◌, [], List, false, true, ◌&&◌, ◌^◌, IfOk, OnOk, OnErr, length};
-ghost use Rattle.pf_lexer.specs.declared.cell.Cell.{Cell};
-ghost use Rattle.pf_lexer.specs.Macros.{value_of};
-ghost use Rattle.pf_lexer.specs.Pieces.{Next};
-ghost use Rattle.pf_lexer.specs.Reading.{weight};
-ghost use Rattle.pf_lexer.specs.Statements.{is_newline, is_sign, is_anchor, begins_anchor, depth_after, depth_of, most_tokens, IsStatement};
+ghost use Rattle.pf_token.specs.declared.cell.Cell.{Cell};
+ghost use Rattle.pf_token.specs.Macros.{value_of};
+ghost use Rattle.pf_token.specs.Pieces.{Next};
+ghost use Rattle.pf_token.specs.Reading.{weight};
+ghost use Rattle.pf_lexer.specs.Statements.{begins_anchor, depth_after, depth_of, most_tokens, IsStatement};
+ghost use Rattle.pf_token.specs.Kinds.{is_newline, is_sign};
 ghost use Rattle.pf_lexer.specs.Taking.{rest_after, is_over, is_newline_view, IsTurn, IsLightTurn, KeepsFew};
 
-use crate::macros::Macros;
-use crate::pieces::next_lexeme;
-use crate::reader::Reader;
-use crate::token::{Lexeme, TokenKind};
 use pf_base::NoMemory;
+use pf_token::{Lexeme, Macros, Reader, next_lexeme};
 use std::alloc::Global;
 
 /// The most tokens of a statement.
@@ -86,42 +84,6 @@ enum Turn {
     Seen(Option<Lexeme>),
 }
 
-impl Lexeme {
-    /// Whether it is a newline.
-    pub fn is_newline(&self) -> bool
-        ensures { result ≡ is_newline self.now }
-    {
-        match self {
-            Lexeme::Token(token) => token.kind == TokenKind::Newline,
-            Lexeme::Fault(_) => false,
-        }
-    }
-
-    /// Whether it is this sign.
-    pub fn is_sign(&self, byte: u8) -> bool
-        ensures { result ≡ is_sign byte self.now }
-    {
-        match self {
-            Lexeme::Token(token) => {
-                token.kind == TokenKind::Sign && token.text.items() == [byte].as_slice()
-            }
-            Lexeme::Fault(_) => false,
-        }
-    }
-
-    /// Whether it is the word `anchor`.
-    fn is_anchor(&self) -> bool
-        ensures { result ≡ is_anchor self.now }
-    {
-        match self {
-            Lexeme::Token(token) => {
-                token.kind == TokenKind::Word && token.text.items() == b"anchor".as_slice()
-            }
-            Lexeme::Fault(_) => false,
-        }
-    }
-}
-
 /// Whether the token in view is a newline.
 fn is_newline_view(view: &Option<Lexeme>) -> bool
     ensures { result ≡ is_newline_view view.now }
@@ -163,7 +125,7 @@ impl StatementFront {
     {
         match self.lexemes.as_slice() {
             [] => false,
-            [first, ..] => first.is_anchor(),
+            [first, ..] => first.is_bare(b"anchor"),
         }
     }
 

@@ -1,12 +1,12 @@
-//! The tokens and statements of short texts, written out by hand. A token is `w` for a word, `q` for a string, `s` for a
-//! sign, `n` for a newline or the name of a fault, then its line, its text and `|`. A statement ends with `.`, or with `{`
-//! where it opens a body.
+//! The statements of short units, written out by hand. A token is `w` for a word, `q` for a string, `s` for a sign, or the name
+//! of a fault, then its line, behind the number of its file and `:` where that isn't 0, its text and `|`. A statement ends with
+//! `.`, or with `{` where it opens a body.
 use crate::{
-    Cause, Define, Fault, FileStatements, Lexeme, Macros, Token, TokenKind, statements_of,
-    tokens_of,
+    Define, LexFault, Lexer, Macros, Reads, Statement, Token, TokenKind, UnitStatements, read_unit,
 };
-use pf_base::{List, Name, NoMemory};
-use std::alloc::Global;
+use pf_base::{List, Name, NoMemory, Place, Text};
+use pf_source::{HeldFile, MemoryFiles};
+use std::alloc::{AllocError, Global};
 use std::process::Abort;
 use std::test::Fail;
 
@@ -19,66 +19,57 @@ fn kind_name(kind: TokenKind) -> &'static [u8] {
     }
 }
 
-fn cause_name(cause: &Cause) -> &'static [u8] {
-    match cause {
-        Cause::BadByte => b"BadByte",
-        Cause::Unterminated => b"Unterminated",
-        Cause::MacroUndefined(_) => b"MacroUndefined",
-        Cause::MacroName => b"MacroName",
-        Cause::TooLarge => b"TooLarge",
-        Cause::Syntax => b"Syntax",
-    }
+fn put_digit(out: &mut Vec<u8>, digit: u64) -> Result<(), NoMemory> {
+    out.push(b'0' + (digit % 10) as u8)?;
+    Ok(())
 }
 
-fn put(out: &mut Vec<u8>, what: &[u8], file: u64, line: u32, text: &[u8]) -> Result<(), NoMemory> {
+fn put(out: &mut Vec<u8>, what: &[u8], place: Place, text: &[u8]) -> Result<(), NoMemory> {
     out.extend_from_slice(what)?;
-    if file != 7 {
-        out.push(b'?')?;
+    if place.file > 0 {
+        put_digit(out, place.file)?;
+        out.push(b':')?;
     }
-    out.push(b'0' + (line % 10) as u8)?;
+    put_digit(out, place.line as u64)?;
     out.extend_from_slice(text)?;
     out.push(b'|')?;
     Ok(())
 }
 
 fn put_token(out: &mut Vec<u8>, token: &Token) -> Result<(), NoMemory> {
-    let place = token.place;
-    put(
-        out,
-        kind_name(token.kind),
-        place.file,
-        place.line,
-        token.text.items(),
-    )
+    put(out, kind_name(token.kind), token.place, token.text.items())
 }
 
-fn put_fault(out: &mut Vec<u8>, fault: &Fault) -> Result<(), NoMemory> {
-    let name: &[u8] = match &fault.cause {
-        Cause::MacroUndefined(name) => name.bytes(),
-        _ => b"",
-    };
-    let place = fault.place;
-    put(out, cause_name(&fault.cause), place.file, place.line, name)
-}
-
-fn written(alloc: Global, found: &[Lexeme]) -> Result<Vec<u8>, NoMemory> {
-    let mut out = Vec::new(alloc);
-    for lexeme in found {
-        match lexeme {
-            Lexeme::Token(token) => put_token(&mut out, token)?,
-            Lexeme::Fault(fault) => put_fault(&mut out, fault)?,
+fn put_fault(out: &mut Vec<u8>, fault: &LexFault) -> Result<(), NoMemory> {
+    match fault {
+        LexFault::BadByte(place) => put(out, b"BadByte", *place, b""),
+        LexFault::Unterminated(place) => put(out, b"Unterminated", *place, b""),
+        LexFault::MacroUndefined(place, name) => put(out, b"MacroUndefined", *place, name.bytes()),
+        LexFault::MacroName(place) => put(out, b"MacroName", *place, b""),
+        LexFault::IncludeDepth(place) => put(out, b"IncludeDepth", *place, b""),
+        LexFault::TooLarge(place) => put(out, b"TooLarge", *place, b""),
+        LexFault::Syntax(place) => put(out, b"Syntax", *place, b""),
+        LexFault::CannotRead(name) => {
+            out.extend_from_slice(b"CannotRead ")?;
+            out.extend_from_slice(name.items())?;
+            Ok(())
         }
+        LexFault::NoMemory => Err(NoMemory),
     }
-    Ok(out)
 }
 
-fn written_statements(alloc: Global, found: &FileStatements) -> Result<Vec<u8>, NoMemory> {
+fn put_statement(out: &mut Vec<u8>, statement: &Statement) -> Result<(), NoMemory> {
+    for token in statement.tokens.items() {
+        put_token(out, token)?;
+    }
+    out.push(if statement.body { b'{' } else { b'.' })?;
+    Ok(())
+}
+
+fn written_statements(alloc: Global, found: &UnitStatements) -> Result<Vec<u8>, NoMemory> {
     let mut out = Vec::new(alloc);
     for statement in &found.statements {
-        for token in statement.tokens.items() {
-            put_token(&mut out, token)?;
-        }
-        out.push(if statement.body { b'{' } else { b'.' })?;
+        put_statement(&mut out, statement)?;
     }
     if let Some(fault) = &found.fault {
         put_fault(&mut out, fault)?;
@@ -109,137 +100,37 @@ fn macros(rt: &impl Abort, alloc: Global) -> Result<Macros, Fail> {
     Ok(Macros::new(alloc, &defines)?)
 }
 
-fn check(
+fn text_of(alloc: Global, bytes: &[u8]) -> Result<Text, AllocError> {
+    Ok(List::of(Vec::from_slice(alloc, bytes)?))
+}
+
+/// Files with these names and bytes, of which the reads with these numbers fail.
+fn files_of(
+    alloc: Global,
+    rows: &[(&'static [u8], &[u8])],
+    fail: Vec<u64>,
+) -> Result<MemoryFiles, AllocError> {
+    let mut content = Vec::new(alloc);
+    for (name, bytes) in rows {
+        content.push(HeldFile {
+            name: text_of(alloc, name)?,
+            bytes: text_of(alloc, bytes)?,
+        })?;
+    }
+    Ok(MemoryFiles::new(alloc, content, fail))
+}
+
+/// The unit of the first of these files.
+fn unit_of(
     rt: &impl Abort,
     alloc: Global,
-    rows: &[(&'static [u8], &'static [u8])],
-) -> Result<(), Fail> {
-    let macros = macros(rt, alloc)?;
-    for (text, wanted) in rows {
-        let text = List::of(Vec::from_slice(alloc, text)?);
-        assert!(rt; text.items().len() < 1000);
-        let found = tokens_of(alloc, text, 7, &macros)?;
-        let written = written(alloc, &found)?;
-        assert_eq!(rt; written.as_slice(), *wanted);
-    }
-    Ok(())
-}
-
-#[test]
-fn lines_and_blanks(rt: HostRuntime) -> Result<(), Fail> {
-    let rows: [(&'static [u8], &'static [u8]); 12] = [
-        (b"", b""),
-        (b"pass in\nblock", b"w1pass|w1in|n1|w2block|"),
-        (b" \ta\r b\r\n", b"w1a|w1b|n1|"),
-        // A continued line is joined, and its line counts.
-        (b"pa\\\nss\n", b"w1pass|n2|"),
-        (b"a \\\n b\nc", b"w1a|w2b|n2|w3c|"),
-        (b"# a\\\nb\nc", b"n2|w3c|"),
-        (b"'a\\\nb' c", b"q1ab|w2c|"),
-        // What a joined line leaves isn't joined again.
-        (b"a\\\\\n\nb", b"w1a\\|n2|w3b|"),
-        (b"\\\n\\\nb\\", b"w3b\\|"),
-        // A comment runs to the end of the line and may hold any byte.
-        (b"a#b c\nd", b"w1a|n1|w2d|"),
-        (b"# \x01 \xff \"\nd", b"n1|w2d|"),
-        (b"a # b", b"w1a|"),
-    ];
-    check(&rt, rt.alloc(), &rows)
-}
-
-#[test]
-fn words_and_signs(rt: HostRuntime) -> Result<(), Fail> {
-    let rows: [(&'static [u8], &'static [u8]); 8] = [
-        (b"(){}<>!=/,", b"s1(|s1)|s1{|s1}|s1<|s1>|s1!|s1=|s1/|s1,|"),
-        (b"a!=b><c", b"w1a|s1!|s1=|w1b|s1>|s1<|w1c|"),
-        (b"10/8,em0:0", b"w110|s1/|w18|s1,|w1em0:0|"),
-        (b"a-b.c_d*e+f%g;h[i]j`k~", b"w1a-b.c_d*e+f%g;h[i]j`k~|"),
-        (b"a$b$ $a", b"w1a$b$|w1a|"),
-        // A byte that may stand in a comment alone is a fault of its own.
-        (b"a\x00b", b"w1a|BadByte1|w1b|"),
-        (
-            b"\x7f \x0b\x80\n~\x1f",
-            b"BadByte1|BadByte1|BadByte1|n1|w2~|BadByte2|",
-        ),
-        (b"a\\b\\ c", b"w1a\\b\\|w1c|"),
-    ];
-    check(&rt, rt.alloc(), &rows)
-}
-
-#[test]
-fn strings(rt: HostRuntime) -> Result<(), Fail> {
-    let rows: [(&'static [u8], &'static [u8]); 14] = [
-        (b"\"a b\" 'c\"d'", b"q1a b|q1c\"d|"),
-        (b"\"\"''a\"b\"c", b"q1|q1|w1a|q1b|w1c|"),
-        (b"\"#$a{\" #", b"q1#$a{|"),
-        // A backslash before the quote, a space or a tab stands for that byte, any other is kept.
-        (b"\"a\\\"b\\ c\\\td\"", b"q1a\"b c\td|"),
-        (b"\"a\\nb\\'c\\\\d\" '\\''", b"q1a\\nb\\'c\\\\d|q1'|"),
-        // There is no escaped backslash.
-        (b"\"a\\\\\" b\"", b"q1a\\\" b|"),
-        (b"'a\nb\r' c", b"q1ab\r|w2c|"),
-        (b"'a\\\n\\\nb' c", b"q1ab|w3c|"),
-        (b"a \"b\nc", b"w1a|Unterminated1|"),
-        (b"a \"b\\\"", b"w1a|Unterminated1|"),
-        (b"'", b"Unterminated1|"),
-        // A bad byte makes the whole string a fault, also where it has no end.
-        (b"\n\"a\x01\nb\" c", b"n1|BadByte2|w3c|"),
-        (b"'\x80", b"BadByte1|"),
-        (b"'a' '\xc3\xa9' b", b"q1a|BadByte1|w1b|"),
-    ];
-    check(&rt, rt.alloc(), &rows)
-}
-
-#[test]
-fn macro_uses(rt: HostRuntime) -> Result<(), Fail> {
-    let rows: [(&'static [u8], &'static [u8]); 13] = [
-        (
-            b"on $ext_if\nto $ext_if:network",
-            b"w1on|w1em0|n1|w2to|w2em0:network|",
-        ),
-        // Tokens of a value stand at the `$`, those behind it at their own line.
-        (b"\n$ports x", b"n1|s2{|w222|s2,|w280|s2}|w2x|"),
-        (b"$ext_if\\\n:0 b", b"w1em0:0|w2b|"),
-        // Reading goes on at the value's first byte: where a token goes on, a `$` has no meaning.
-        (b"$empty$ext_if", b"w1em0|"),
-        (b"$a$ext_if $a\"b\"", b"w1a$ext_if|w1a|q1b|"),
-        (b"$quote y\" z", b"q1x y|w1z|"),
-        (b"$quote\ny", b"Unterminated1|"),
-        (b"$hash b\nc", b"w1x|n1|w2c|"),
-        (b"\n$lines\nz", b"n1|w2x|n2|w2y|n2|w3z|"),
-        // Lines are continued in the file alone.
-        (b"$joined z", b"w1x\\|n1|w1y|w1z|"),
-        (b"$slash\nz", b"w1x\\|n1|w2z|"),
-        (b"'$a' $a#$a", b"q1$a|w1a|"),
-        (b"{$a}", b"s1{|w1a|s1}|"),
-    ];
-    check(&rt, rt.alloc(), &rows)
-}
-
-#[test]
-fn macro_faults(rt: HostRuntime) -> Result<(), Fail> {
-    let rows: [(&'static [u8], &'static [u8]); 11] = [
-        // A fault takes the rest of its word with it.
-        (b"$nope:x y", b"MacroUndefined1nope|w1y|"),
-        (b"\n$nope/24", b"n1|MacroUndefined2nope|s2/|w224|"),
-        (
-            b"$EXT_IF $ext-if",
-            b"MacroUndefined1EXT_IF|MacroUndefined1ext|",
-        ),
-        (b"$a\\\nb", b"MacroUndefined1ab|"),
-        (
-            b"$a234567890123456789012345678901234567890123456789012345678901234567890",
-            b"MacroUndefined1a23456789012345678901234567890123456789012345678901234567890123|",
-        ),
-        (b"$ x", b"MacroName1|w1x|"),
-        (b"a $", b"w1a|MacroName1|"),
-        (b"$-$a x", b"MacroName1|w1x|"),
-        (b"$$a{", b"MacroName1|s1{|"),
-        // A value with a `$` isn't put in.
-        (b"$dollar:$x }", b"Syntax1|s1}|"),
-        (b"a\n$dollar", b"w1a|n1|Syntax2|"),
-    ];
-    check(&rt, rt.alloc(), &rows)
+    rows: &[(&'static [u8], &[u8])],
+    fail: Vec<u64>,
+) -> Result<UnitStatements, Fail> {
+    let mut files = files_of(alloc, rows, fail)?;
+    let mut reads = Reads::new(alloc, 16_777_216);
+    let name = text_of(alloc, b"f")?;
+    Ok(read_unit(alloc, &mut files, &mut reads, &name, macros(rt, alloc)?)?)
 }
 
 fn check_statements(
@@ -248,9 +139,7 @@ fn check_statements(
     rows: &[(&'static [u8], &'static [u8])],
 ) -> Result<(), Fail> {
     for (text, wanted) in rows {
-        let text = List::of(Vec::from_slice(alloc, text)?);
-        assert!(rt; text.items().len() < 1000);
-        let found = statements_of(alloc, text, 7, macros(rt, alloc)?)?;
+        let found = unit_of(rt, alloc, &[(b"f", *text)], vec![in alloc;]?)?;
         let written = written_statements(alloc, &found)?;
         assert_eq!(rt; written.as_slice(), *wanted);
     }
@@ -365,14 +254,13 @@ fn repeated(
     piece: &[u8],
     count: u32,
     back: &[u8],
-) -> Result<FileStatements, Fail> {
+) -> Result<UnitStatements, Fail> {
     let mut text = Vec::from_slice(alloc, front)?;
     for _ in 0..count {
         text.extend_from_slice(piece)?;
     }
     text.extend_from_slice(back)?;
-    assert!(rt; text.len() < 100000);
-    Ok(statements_of(alloc, List::of(text), 7, macros(rt, alloc)?)?)
+    unit_of(rt, alloc, &[(b"f", text.as_slice())], vec![in alloc;]?)
 }
 
 #[test]
@@ -416,6 +304,160 @@ fn long_values(rt: HostRuntime) -> Result<(), Fail> {
         let found = repeated(&rt, alloc, front, b" x", *count, back)?;
         let written = written_statements(alloc, &found)?;
         assert_eq!(rt; written.as_slice(), *wanted);
+    }
+    Ok(())
+}
+
+#[test]
+fn include_forms(rt: HostRuntime) -> Result<(), Fail> {
+    let rows: [(&'static [u8], &'static [u8]); 12] = [
+        (b"include = x\n$include", b"w2x|."),
+        (b"\"include\" x\n", b"q1include|w1x|."),
+        (b"include\n", b"Syntax1|"),
+        (b"a\ninclude \"\"\n", b"w1a|.Syntax2|"),
+        (b"include a \\\nb\n", b"Syntax1|"),
+        (b"include (\n", b"Syntax1|"),
+        (b"include {\na\n}\n", b"Syntax1|"),
+        // A fault counts as a word.
+        (b"include \\\n$dollar", b"Syntax2|"),
+        (b"include \\\n$dollar x", b"Syntax1|"),
+        (b"include $nope", b"MacroUndefined1nope|"),
+        (b"i = include\n$i $hash\n", b"CannotRead x"),
+        (b"include 'a b'", b"CannotRead a b"),
+    ];
+    check_statements(&rt, rt.alloc(), &rows)
+}
+
+#[test]
+fn included_files(rt: HostRuntime) -> Result<(), Fail> {
+    let alloc = rt.alloc();
+    let files: [(&'static [u8], &[u8]); 7] = [
+        (b"f", b""),
+        (b"x", b"x1\n\nx3"),
+        (b"y", b"\ninclude x\ny3"),
+        (b"anchor", b"anchor a {\nx2\n"),
+        (b"close", b"}\nx2"),
+        (b"m", b"m = n\n"),
+        (b"brace", b"a {\nb"),
+    ];
+    let rows: [(&'static [u8], &'static [u8]); 7] = [
+        (b"a\ninclude x\nb", b"w1a|.w1:1x1|.w1:3x3|.w3b|."),
+        // A file that is included twice has one number.
+        (
+            b"include y\ninclude x",
+            b"w2:1x1|.w2:3x3|.w1:3y3|.w2:1x1|.w2:3x3|.",
+        ),
+        // A body may end in another file.
+        (
+            b"include anchor\nb\ninclude close\nc",
+            b"w1:1anchor|w1:1a|{w1:2x2|.w2b|.s2:1}|.w2:2x2|.w4c|.",
+        ),
+        (b"include m\n$m", b"w2n|."),
+        // A file's end ends a statement.
+        (b"include brace\nc }", b"w1:1a|s1:1{|w1:2b|.w2c|s2}|."),
+        (b"include gone\nb", b"CannotRead gone"),
+        (b"a\ninclude x\n'", b"w1a|.w1:1x1|.w1:3x3|.Unterminated3|"),
+    ];
+    for (text, wanted) in &rows {
+        let mut given = files;
+        given[0] = (b"f", *text);
+        let found = unit_of(&rt, alloc, &given, vec![in alloc;]?)?;
+        let written = written_statements(alloc, &found)?;
+        assert_eq!(rt; written.as_slice(), *wanted);
+    }
+    Ok(())
+}
+
+/// Files of which each includes the next one, and the last has this text.
+fn chain(alloc: Global, count: u8, last: &[u8]) -> Result<MemoryFiles, AllocError> {
+    let mut content = Vec::new(alloc);
+    for number in 0..count {
+        let mut bytes = Vec::from_slice(alloc, b"include i")?;
+        bytes.push(b'a' + (number % 26) + 1)?;
+        content.push(HeldFile {
+            name: List::of(vec![in alloc; b'i', b'a' + (number % 26)]?),
+            bytes: List::of(bytes),
+        })?;
+    }
+    content.push(HeldFile {
+        name: List::of(vec![in alloc; b'i', b'a' + (count % 26)]?),
+        bytes: text_of(alloc, last)?,
+    })?;
+    Ok(MemoryFiles::new(alloc, content, vec![in alloc;]?))
+}
+
+#[test]
+fn include_depth(rt: HostRuntime) -> Result<(), Fail> {
+    let alloc = rt.alloc();
+    let rows: [(u8, &'static [u8], &'static [u8]); 4] = [
+        (16, b"\npass", b"w6:2pass|."),
+        (17, b"pass", b"IncludeDepth6:1|"),
+        // Also where the include is outside its form, and a file that includes itself.
+        (16, b"\ninclude a b", b"IncludeDepth6:2|"),
+        (0, b"include ia", b"IncludeDepth1|"),
+    ];
+    for (count, last, wanted) in &rows {
+        let mut files = chain(alloc, *count, last)?;
+        let mut reads = Reads::new(alloc, 16_777_216);
+        let name = text_of(alloc, b"ia")?;
+        let found = read_unit(alloc, &mut files, &mut reads, &name, macros(&rt, alloc)?)?;
+        let written = written_statements(alloc, &found)?;
+        assert_eq!(rt; written.as_slice(), *wanted);
+    }
+    Ok(())
+}
+
+#[test]
+fn limits_and_failed_reads(rt: HostRuntime) -> Result<(), Fail> {
+    let alloc = rt.alloc();
+    let rows: [(&[u64], u64, &'static [u8]); 6] = [
+        (&[], 48, b"w1:1x|.w2:1y|.w3:1z|.w1:1x|."),
+        // The fourth file passes what the load may read, and the third read fails.
+        (&[], 46, b"w1:1x|.w2:1y|.w3:1z|.TooLarge1:0|"),
+        (&[], 44, b"w1:1x|.w2:1y|.TooLarge3:0|"),
+        (&[3], 48, b"w1:1x|.CannotRead y"),
+        (&[], 39, b"TooLarge0|"),
+        (&[1], 48, b"CannotRead f"),
+    ];
+    for (fail, left, wanted) in &rows {
+        let content: [(&'static [u8], &[u8]); 4] = [
+            (b"f", b"include x\ninclude y\ninclude z\ninclude x\n"),
+            (b"x", b"x\n"),
+            (b"y", b"y\n"),
+            (b"z", b"z\n"),
+        ];
+        let mut files = files_of(alloc, &content, Vec::from_slice(alloc, fail)?)?;
+        let mut reads = Reads::new(alloc, *left);
+        let name = text_of(alloc, b"f")?;
+        let found = read_unit(alloc, &mut files, &mut reads, &name, macros(&rt, alloc)?)?;
+        let written = written_statements(alloc, &found)?;
+        assert_eq!(rt; written.as_slice(), *wanted);
+    }
+    Ok(())
+}
+
+#[test]
+fn fault_again(rt: HostRuntime) -> Result<(), Fail> {
+    let alloc = rt.alloc();
+    let rows: [(&'static [u8], &'static [u8]); 3] = [
+        (b"a\n$nope\nb", b"MacroUndefined2nope|"),
+        (b"a\ninclude gone\nb", b"CannotRead gone"),
+        (b"a\n'b", b"Unterminated2|"),
+    ];
+    for (text, wanted) in &rows {
+        let mut files = files_of(alloc, &[(b"f", *text)], vec![in alloc;]?)?;
+        let mut reads = Reads::new(alloc, 16_777_216);
+        let name = text_of(alloc, b"f")?;
+        let mut lexer = Lexer::begin(alloc, &mut files, &mut reads, &name, macros(&rt, alloc)?)?;
+        lexer.next_statement(alloc, &mut files, &mut reads)?;
+        for _ in 0..3 {
+            let mut out = Vec::new(alloc);
+            if let Err(fault) = lexer.next_statement(alloc, &mut files, &mut reads) {
+                put_fault(&mut out, &fault)?;
+            }
+            assert_eq!(rt; out.as_slice(), *wanted);
+        }
+        assert!(rt; files.failed().len() <= 1);
     }
     Ok(())
 }

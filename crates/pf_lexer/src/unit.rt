@@ -1,137 +1,202 @@
-//! The statements that a file hands out: all but macro definitions, which act on the statements after them.
-ghost use Rattle.std.specs.Prelude.{◌≡◌, ◌+◌, ◌<◌, ◌^◌, List, Option, IfOk, OnOk, OnErr, true, length};
-ghost use Rattle.pf_lexer.specs.declared.token.Fault.{Fault};
-ghost use Rattle.pf_lexer.specs.declared.unit.Statement.{Statement};
-ghost use Rattle.pf_lexer.specs.Cells.{cells_from};
-ghost use Rattle.pf_lexer.specs.Units.{tokens_in, outcome_rest, Leads, Handed, LightOutcome};
-ghost use Rattle.pf_lexer.specs.Macros.{with_definition};
-ghost use Rattle.pf_lexer.specs.Reading.{weight};
-ghost use Rattle.pf_lexer.specs.Faults.{is_macro_name, joined};
+//! A unit that is being read: its macros and its open files, pf.conf(5).
+ghost use Rattle.std.specs.Prelude.{◌≡◌, ℕ, ◌∷◌, [], ◌<◌, ◌≤◌, ◌+◌, ◌*◌, ◌^◌, List, true, IfOk, IfErr, OnOk, OnSome, length};
+ghost use Rattle.pf_source.specs.Told.{Told, file_of};
+ghost use Rattle.pf_token.specs.Cells.{are_in};
+ghost use Rattle.pf_token.specs.Reading.{weight};
+ghost use Rattle.pf_lexer.specs.Calls.{Asks, IsNumbered, IsUnopened, StandsIn, StopsWith, unread_in};
+ghost use Rattle.pf_lexer.specs.Going.{unit_weight, unopened, unread_for, IsCut, IsFoundNumbered, IsLighterTurn, IsStopped, IsTurnNumbered, Leaves, TurnsTo};
+ghost use Rattle.pf_lexer.specs.Stages.{going, failed};
+ghost use Rattle.pf_lexer.specs.Units.{Leads, Opens};
 
-use crate::definition::{decided_fault, definition, joined};
-use crate::macros::Macros;
-use crate::reader::Reader;
-use crate::statement::read_statement;
-use crate::token::{Fault, Lexeme, Token};
-use pf_base::{List, Name, NoMemory, Text};
+use crate::deed::{Deed, Statement, take_statement};
+use crate::failure::Failure;
+use crate::fault::{LexFault, copy_text};
+use crate::reads::{Reads, ReadsFault};
+use pf_base::{NoMemory, Place, Text};
+use pf_source::Files;
+use pf_token::{Macros, Reader};
 use std::alloc::Global;
+use std::marker::Model;
+use std::mem;
 
-/// A statement. Where it opens a body, the `{` isn't among its tokens.
-#[derive(Debug, Drop)]
-pub struct Statement {
-    pub tokens: List<Token>,
-    pub body: bool,
-}
-
-/// What comes next of a file.
-#[derive(Debug, Drop)]
-pub enum Outcome {
-    Hands(Statement),
-    Ends,
-    Fails(Fault),
-}
-
-/// The tokens without the faults.
-fn tokens_in(alloc: Global, lexemes: Vec<Lexeme>) -> Result<List<Token>, NoMemory>
-    ensures { IfOk result (λ tokens. tokens ≡ tokens_in lexemes.items) }
-{
-    let mut tokens = Vec::new(alloc);
-    for lexeme in lexemes {
-        match lexeme {
-            Lexeme::Token(token) => tokens.push(token)?,
-            Lexeme::Fault(_) => {}
-        }
-    }
-    Ok(List::of(tokens))
-}
-
-/// Adds a definition to the macros.
-fn define(
-    alloc: Global,
-    macros: &mut Macros,
-    name: &Token,
-    values: &[Lexeme],
-) -> Result<(), NoMemory>
-    requires { is_macro_name name.now.text ≡ true }
-    ensures ok { OnOk result (macros.new ≡ with_definition macros.old name.now.text (joined values.now)) }
-    ensures err { OnErr result (macros.new ≡ macros.old) }
-{
-    let value = joined(alloc, values)?;
-    match Name::new(name.text.items()) {
-        Some(name) => macros.define(alloc, name, &value)?,
-        None => unreachable!(),
-    }
-    Ok(())
-}
-
-/// Reads on to the next statement that is handed out.
-pub fn next_statement(
-    alloc: Global,
-    reader: &mut Reader,
-    macros: &mut Macros,
-) -> Result<Outcome, NoMemory>
-    ensures leads { IfOk result (λ outcome. Leads macros.old reader.old outcome macros.new (outcome_rest outcome reader.new)) }
-    ensures lighter { IfOk result (λ outcome. LightOutcome outcome (weight reader.new) (weight reader.old)) }
-{
-    loop {
-        let raw = read_statement(alloc, reader, macros)?;
-        if let Some(fault) = decided_fault(&raw.lexemes, raw.close) {
-            return Ok(Outcome::Fails(fault));
-        }
-        match definition(&raw.lexemes) {
-            Some((name, values)) => define(alloc, macros, name, values)?,
-            None => {
-                if !raw.lexemes.is_empty() {
-                    let tokens = tokens_in(alloc, raw.lexemes)?;
-                    return Ok(Outcome::Hands(Statement {
-                        tokens,
-                        body: raw.close.is_body(),
-                    }));
-                }
-                if raw.close.is_end() {
-                    return Ok(Outcome::Ends);
-                }
-            }
-        }
-    }
-}
-
-/// The statements of a file, and the fault that ends them, if any.
-#[derive(Debug, Drop)]
-pub struct FileStatements {
-    pub statements: Vec<Statement>,
-    pub fault: Option<Fault>,
-}
-
-/// All statements that a text hands out, up to its end or its first fault. `file` is the number that their places have.
-pub fn statements_of(
-    alloc: Global,
-    text: Text,
-    file: u64,
+/// A unit that is being read. Clauses see its macros and what is left of its open files.
+#[derive(Drop)]
+pub struct OpenUnit {
     macros: Macros,
-) -> Result<FileStatements, NoMemory>
-    requires { length text + 1 < 2 ^ 32 }
-    ensures handed { IfOk result (λ found. Handed macros (cells_from (record { file = file; line = 1 }) text) found.statements.items found.fault) }
-    ensures only { IfOk result (λ found. (others : List Statement) (fault : Option Fault) →
-        Handed macros (cells_from (record { file = file; line = 1 }) text) others fault → (found.statements.items ≡ others) × (found.fault ≡ fault)) }
+    top: Reader,
+    below: Vec<Reader>,
+}
+
+impl Model for OpenUnit {
+    ghost use Rattle.std.specs.Prelude.{reverse};
+    ghost use Rattle.pf_lexer.specs.Stages.{Standing};
+    ghost use Rattle.pf_lexer.specs.StageCodes.{standing_code};
+
+    ghost Value = { Standing };
+
+    ghost coded = { standing_code };
+
+    ghost view = { λ a. record { macros = a.macros; top = a.top; below = reverse a.below.items } };
+}
+
+/// What one statement leads to.
+#[derive(Debug, Drop)]
+pub enum Turn {
+    /// Nothing is handed out.
+    Passed,
+    Hands(Statement),
+    /// The unit ends.
+    Over,
+}
+
+/// Why a file with this name wasn't read, as it is answered.
+fn unopened(name: Text, fault: ReadsFault) -> LexFault
+    ensures { result ≡ unopened name fault }
 {
-    let mut macros = macros;
-    let mut statements = Vec::new(alloc);
-    let mut reader = Reader::new(alloc, text, file);
-    loop {
-        match next_statement(alloc, &mut reader, &mut macros)? {
-            Outcome::Hands(statement) => statements.push(statement)?,
-            Outcome::Ends => {
-                return Ok(FileStatements {
-                    statements,
-                    fault: None,
-                });
+    match fault {
+        ReadsFault::Failed => LexFault::CannotRead(name),
+        ReadsFault::TooLarge { number } => LexFault::TooLarge(Place {
+            file: number,
+            line: 0,
+        }),
+        ReadsFault::NoMemory => LexFault::NoMemory,
+    }
+}
+
+/// Reads a file: all that is to be read of it.
+pub fn open_file<F: Files>(
+    alloc: Global,
+    files: &mut F,
+    reads: &mut Reads,
+    name: Text,
+) -> Result<Reader, LexFault>
+    ensures ok { IfOk result (λ file. Told (F.tells files.old).held (λ held. Opens (file_of held) name reads.old (Ok file) reads.new)) }
+    ensures err { IfErr result (λ fault. Told (F.tells files.old).held (λ held. IsUnopened (file_of held) name reads.old fault reads.new)) }
+    ensures asks { Asks (unread_in result) (F.tells files.old) (F.tells files.new) reads.old reads.new }
+    ensures unread { IfErr result (λ fault. (other : List ℕ) → fault ≡ LexFault.CannotRead other → name ≡ other) }
+    ensures within { IfOk result (λ file. are_in (length reads.new.names) file ≡ true) }
+    ensures places { IfErr result (λ fault. IsNumbered (length reads.new.names) fault) }
+    ensures lighter { IfOk result (λ file. weight file + 2 ^ 64 * reads.new.left ≤ 2 ^ 64 * reads.old.left) }
+{
+    match reads.read(alloc, files, &name) {
+        Ok(file) => Ok(Reader::new(alloc, file.text, file.number)),
+        Err(fault) => Err(unopened(name, fault)),
+    }
+}
+
+impl OpenUnit {
+    /// A unit at the beginning of its first file.
+    pub fn new(alloc: Global, macros: Macros, top: Reader) -> OpenUnit
+        ensures { result ≡ record { macros = macros; top = top; below = [] } }
+    {
+        OpenUnit {
+            macros,
+            top,
+            below: Vec::new(alloc),
+        }
+    }
+
+    /// An included file is read before the rest of the file that includes it.
+    fn enter(&mut self, file: Reader) -> Result<(), NoMemory>
+        ensures { OnOk result (self.new ≡ record { macros = self.old.macros; top = file; below = self.old.top ∷ self.old.below }) }
+    {
+        let waiting = mem::replace(&mut self.top, file);
+        self.below.push(waiting)?;
+        Ok(())
+    }
+
+    /// Where a file ends, the file that included it goes on. False at the end of the first file.
+    fn leave(&mut self) -> bool
+        ensures { Leaves self.old result self.new }
+    {
+        match self.below.pop() {
+            Some(file) => {
+                self.top = file;
+                true
             }
-            Outcome::Fails(fault) => {
-                return Ok(FileStatements {
-                    statements,
-                    fault: Some(fault),
-                });
+            None => false,
+        }
+    }
+
+    /// Reads the file of an include.
+    fn include<F: Files>(
+        &mut self,
+        alloc: Global,
+        files: &mut F,
+        reads: &mut Reads,
+        name: Text,
+    ) -> Result<(), Failure>
+        ensures opens { OnOk result (Told (F.tells files.old).held (λ held. Opens (file_of held) name reads.old (Ok self.new.top) reads.new)) }
+        ensures enters { OnOk result (self.new ≡ record { macros = self.old.macros; top = self.new.top; below = self.old.top ∷ self.old.below }) }
+        ensures err { IfErr result (λ failure. Told (F.tells files.old).held (λ held. IsCut (file_of held) name reads.old failure.fault reads.new)) }
+        ensures asks { Asks (unread_for result) (F.tells files.old) (F.tells files.new) reads.old reads.new }
+        ensures within { OnOk result (are_in (length reads.new.names) self.new.top ≡ true) }
+        ensures places { IfErr result (λ failure. IsNumbered (length reads.new.names) failure.fault) }
+        ensures lighter { OnOk result (weight self.new.top + 2 ^ 64 * reads.new.left ≤ 2 ^ 64 * reads.old.left) }
+    {
+        let copy = copy_text(alloc, &name)?;
+        match open_file(alloc, files, reads, name) {
+            Ok(file) => {
+                self.enter(file)?;
+                Ok(())
+            }
+            Err(fault) => {
+                let kept = fault.twin(copy);
+                Err(Failure { fault, kept })
+            }
+        }
+    }
+
+    /// Carries out the next statement.
+    fn step<F: Files>(
+        &mut self,
+        alloc: Global,
+        files: &mut F,
+        reads: &mut Reads,
+    ) -> Result<Turn, Failure>
+        ensures ok { IfOk result (λ turn. Told (F.tells files.old).held (λ held. TurnsTo (file_of held) self.old reads.old turn self.new reads.new)) }
+        ensures err { IfErr result (λ failure. Told (F.tells files.old).held (λ held. IsStopped (file_of held) self.old reads.old failure.fault reads.new)) }
+        ensures asks { Asks (unread_for result) (F.tells files.old) (F.tells files.new) reads.old reads.new }
+        ensures within { IfOk result (λ turn. StandsIn (length reads.old.names) self.old → StandsIn (length reads.new.names) self.new) }
+        ensures places { StandsIn (length reads.old.names) self.old → IsTurnNumbered (length reads.new.names) result }
+        ensures lighter { IfOk result (λ turn. IsLighterTurn turn (unit_weight self.new reads.new) (unit_weight self.old reads.old)) }
+    {
+        let includes = self.below.len();
+        match take_statement(alloc, &mut self.top, &mut self.macros, includes)? {
+            Deed::Nothing => Ok(Turn::Passed),
+            Deed::Hands(statement) => Ok(Turn::Hands(statement)),
+            Deed::Includes(name) => {
+                self.include(alloc, files, reads, name)?;
+                Ok(Turn::Passed)
+            }
+            Deed::Ends if self.leave() => Ok(Turn::Passed),
+            Deed::Ends => Ok(Turn::Over),
+            Deed::Fails(fault) => Err(Failure {
+                fault: LexFault::answered(&fault),
+                kept: LexFault::answered(&fault),
+            }),
+        }
+    }
+
+    /// Reads on to the next statement that is handed out, or None at the unit's end.
+    pub fn advance<F: Files>(
+        &mut self,
+        alloc: Global,
+        files: &mut F,
+        reads: &mut Reads,
+    ) -> Result<Option<Statement>, Failure>
+        ensures ok { IfOk result (λ found. Told (F.tells files.old).held (λ held. Leads (file_of held) (going self.old) reads.old (Ok found) (going self.new) reads.new)) }
+        ensures err { IfErr result (λ failure. Told (F.tells files.old).held (λ held. StopsWith (file_of held) (going self.old) reads.old failure.fault (failed failure.fault) reads.new)) }
+        ensures asks { Asks (unread_for result) (F.tells files.old) (F.tells files.new) reads.old reads.new }
+        ensures within { IfOk result (λ found. StandsIn (length reads.old.names) self.old → StandsIn (length reads.new.names) self.new) }
+        ensures places { StandsIn (length reads.old.names) self.old → IsFoundNumbered (length reads.new.names) result }
+        ensures lighter { IfOk result (λ found. OnSome found (unit_weight self.new reads.new < unit_weight self.old reads.old)) }
+    {
+        loop {
+            match self.step(alloc, files, reads)? {
+                Turn::Passed => {}
+                Turn::Hands(statement) => return Ok(Some(statement)),
+                Turn::Over => return Ok(None),
             }
         }
     }

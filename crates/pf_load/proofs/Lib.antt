@@ -1,3 +1,5 @@
-pub mod Examples
-pub mod Readings
+pub mod Beginning
+pub mod Following
+pub mod Lacking
+pub mod OneLoad
 pub mod Spellings

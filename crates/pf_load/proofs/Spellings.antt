@@ -8,9 +8,6 @@ use Rattle.pf_load.specs.Grammar.{Spells, action_word, direction_words, quick_wo
 use Rattle.pf_load.specs.Line.{Words, number_named, direction_at, quick_at, proto_at_end, rule_with, rule_behind, rule_of}
 use Rattle.pf_rule.specs.declared.packet.Direction.{Direction}
 use Rattle.pf_rule.specs.declared.packet.Direction.TheVariants.{In, Out}
-use Rattle.pf_rule.specs.declared.rule.Action.{Action}
-use Rattle.pf_rule.specs.declared.rule.Action.TheVariants.{Pass, Block}
-use Rattle.pf_rule.specs.declared.rule.BlockKind.TheVariants.{Drop}
 use Rattle.pf_rule.specs.declared.rule.Rule.{Rule}
 
 -- From the parts to the words.
@@ -38,23 +35,23 @@ unfolding proto_at_end
 proto_read None h = refl
 proto_read (Some digits) h = some_mapped (number_named digits) h
 
-behind_read : (action : Action) (d : Option Direction) (q : Bool) (p : Option (List ℕ)) → IfSome p (λ digits. IsSome (number_named digits))
-    → rule_behind action (direction_words d ++ (quick_words q ++ proto_words p)) ≡ Some (rule_with action d q (option_and_then number_named p))
+behind_read : (blocks : Bool) (d : Option Direction) (q : Bool) (p : Option (List ℕ)) → IfSome p (λ digits. IsSome (number_named digits))
+    → rule_behind blocks (direction_words d ++ (quick_words q ++ proto_words p)) ≡ Some (rule_with blocks d q (option_and_then number_named p))
 unfolding rule_behind
-behind_read action d q p h =
-    ap (λ (x : Option Direction × Words). option_map (λ proto. rule_with action x.0 (quick_at x.1).0 proto) (proto_at_end (quick_at x.1).1)) (direction_read d q p)
-    ∙ (ap (λ (x : Bool × Words). option_map (λ proto. rule_with action d x.0 proto) (proto_at_end x.1)) (quick_read q p)
-    ∙ ap (option_map (rule_with action d q)) (proto_read p h))
+behind_read blocks d q p h =
+    ap (λ (x : Option Direction × Words). option_map (λ proto. rule_with blocks x.0 (quick_at x.1).0 proto) (proto_at_end (quick_at x.1).1)) (direction_read d q p)
+    ∙ (ap (λ (x : Bool × Words). option_map (λ proto. rule_with blocks d x.0 proto) (proto_at_end x.1)) (quick_read q p)
+    ∙ ap (option_map (rule_with blocks d q)) (proto_read p h))
 
-line_read : (action : Action) (d : Option Direction) (q : Bool) (p : Option (List ℕ)) → IfSome p (λ digits. IsSome (number_named digits))
-    → rule_of (action_word action ∷ (direction_words d ++ (quick_words q ++ proto_words p))) ≡ Some (rule_with action d q (option_and_then number_named p))
+line_read : (blocks : Bool) (d : Option Direction) (q : Bool) (p : Option (List ℕ)) → IfSome p (λ digits. IsSome (number_named digits))
+    → rule_of (action_word blocks ∷ (direction_words d ++ (quick_words q ++ proto_words p))) ≡ Some (rule_with blocks d q (option_and_then number_named p))
 unfolding rule_of
-line_read Pass d q p h = behind_read Pass d q p h
-line_read (Block Drop) d q p h = behind_read (Block Drop) d q p h
+line_read false d q p h = behind_read false d q p h
+line_read true d q p h = behind_read true d q p h
 
 pub says_spelled : (words : Words) (rule : Rule) → Spells words rule → rule_of words ≡ Some rule
 says_spelled words rule s =
-    ap rule_of s.are ∙ (line_read s.line.action s.line.direction s.line.quick s.line.proto s.number ∙ ap (λ (r : Rule). Some r) (sym s.says))
+    ap rule_of s.are ∙ (line_read s.line.blocks s.line.direction s.line.quick s.line.proto s.number ∙ ap (λ (r : Rule). Some r) (sym s.says))
 
 -- From the words to the parts.
 
@@ -118,26 +115,26 @@ was_some : {A B : Type 0} (f : A → B) (o : Option A) (y : B) → option_map f 
 was_some f None y h = cc
 was_some f (Some x) y h = record { x = x; was = refl; is = cc }
 
-behind_spelled : (action : Action) (words : Words) (rule : Rule) → rule_behind action words ≡ Some rule → Spells (action_word action ∷ words) rule
+behind_spelled : (blocks : Bool) (words : Words) (rule : Rule) → rule_behind blocks words ≡ Some rule → Spells (action_word blocks ∷ words) rule
 unfolding rule_behind
-behind_spelled action words rule h =
+behind_spelled blocks words rule h =
     let d = direction_at words in
     let q = quick_at d.1 in
-    let m = was_some (rule_with action d.0 q.0) (proto_at_end q.1) rule h in
+    let m = was_some (rule_with blocks d.0 q.0) (proto_at_end q.1) rule h in
     let e = proto_spelled q.1 m.x m.was in
     record {
-      line = record { action = action; direction = d.0; quick = q.0; proto = e.digits };
+      line = record { blocks = blocks; direction = d.0; quick = q.0; proto = e.digits };
       number = e.number;
-      are = ap (λ ws. action_word action ∷ ws) (direction_spelled words ∙ ap (λ ws. direction_words d.0 ++ ws) (quick_spelled d.1 ∙ ap (λ ws. quick_words q.0 ++ ws) e.are));
-      says = sym m.is ∙ ap (rule_with action d.0 q.0) e.says;
+      are = ap (λ ws. action_word blocks ∷ ws) (direction_spelled words ∙ ap (λ ws. direction_words d.0 ++ ws) (quick_spelled d.1 ∙ ap (λ ws. quick_words q.0 ++ ws) e.are));
+      says = sym m.is ∙ ap (rule_with blocks d.0 q.0) e.says;
     }
 
 head_cases : (a b : Bool) (word : List ℕ) (words : Words) (rule : Rule) → (a ≡ true → word ≡ codes "pass") → (b ≡ true → word ≡ codes "block")
-    → cond a (rule_behind Pass words) (cond b (rule_behind (Block Drop) words) None) ≡ Some rule → Spells (word ∷ words) rule
+    → cond a (rule_behind false words) (cond b (rule_behind true words) None) ≡ Some rule → Spells (word ∷ words) rule
 head_cases true b word words rule is_pass is_block h =
-    let P : List ℕ → Type 0 = λ w. Spells (w ∷ words) rule in subst P (sym (is_pass refl)) (behind_spelled Pass words rule h)
+    let P : List ℕ → Type 0 = λ w. Spells (w ∷ words) rule in subst P (sym (is_pass refl)) (behind_spelled false words rule h)
 head_cases false true word words rule is_pass is_block h =
-    let P : List ℕ → Type 0 = λ w. Spells (w ∷ words) rule in subst P (sym (is_block refl)) (behind_spelled (Block Drop) words rule h)
+    let P : List ℕ → Type 0 = λ w. Spells (w ∷ words) rule in subst P (sym (is_block refl)) (behind_spelled true words rule h)
 head_cases false false word words rule is_pass is_block h = cc
 
 pub spells_said : (words : Words) (rule : Rule) → rule_of words ≡ Some rule → Spells words rule

@@ -4,20 +4,18 @@ use Rattle.std.specs.Option.{option_and_then, IfSome, IsSome}
 use Rattle.pf_load.specs.Line.{Words, number_named, rule_with}
 use Rattle.pf_rule.specs.declared.packet.Direction.{Direction}
 use Rattle.pf_rule.specs.declared.packet.Direction.TheVariants.{In, Out}
-use Rattle.pf_rule.specs.declared.rule.Action.{Action}
-use Rattle.pf_rule.specs.declared.rule.Action.TheVariants.{Pass, Block}
 use Rattle.pf_rule.specs.declared.rule.Rule.{Rule}
 
--- the parts of a rule line; the number after `proto` as its digits are written
+-- the parts of a rule line: whether it blocks, and the number after `proto` as its digits are written
 pub record RuleLine : Type 0 where
-  pub action : Action
+  pub blocks : Bool
   pub direction : Option Direction
   pub quick : Bool
   pub proto : Option (List ℕ)
 
-abbrev pub action_word : Action → List ℕ
-action_word Pass = codes "pass"
-action_word (Block kind) = codes "block"
+abbrev pub action_word : Bool → List ℕ
+action_word false = codes "pass"
+action_word true = codes "block"
 
 abbrev pub direction_words : Option Direction → Words
 direction_words None = []
@@ -34,14 +32,14 @@ proto_words (Some digits) = codes "proto" ∷ digits ∷ []
 
 -- the words of the line: its parts in their order
 abbrev pub spelled : RuleLine → Words
-spelled line = action_word line.action ∷ (direction_words line.direction ++ (quick_words line.quick ++ proto_words line.proto))
+spelled line = action_word line.blocks ∷ (direction_words line.direction ++ (quick_words line.quick ++ proto_words line.proto))
 
 -- the digits after `proto` are one to three, of value at most 255
 abbrev pub HasNumber : RuleLine → Type 0
 HasNumber line = IfSome line.proto (λ digits. IsSome (number_named digits))
 
 abbrev pub rule_said : RuleLine → Rule
-rule_said line = rule_with line.action line.direction line.quick (option_and_then number_named line.proto)
+rule_said line = rule_with line.blocks line.direction line.quick (option_and_then number_named line.proto)
 
 -- these words spell this rule
 pub record Spells (words : Words) (rule : Rule) : Type 0 where

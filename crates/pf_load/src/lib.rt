@@ -1,13 +1,11 @@
-//! Reads the text of a configuration into its rules, or finds its first faulty line.
-//! It stands on pf_base, whose lines and words it reads, and on pf_rule, whose rules it gives.
-//! The layer above loads the rules by [`read_rules`].
+//! Loads a file of rules: the statements that the lexer hands out, each a rule or a fault.
+//! It stands on pf_base, pf_source, pf_runs (what an outage is), pf_lexer and pf_rule.
+//! The layer above loads by [`load`].
 #![tactic(auto)]
 
 pub mod line;
-pub mod rules;
+pub mod loading;
 
 pub use line::words_say_what_they_spell;
-pub use rules::{RulesFault, read_rules};
+pub use loading::{LoadFault, a_load_comes_to_one_thing, load};
 
-#[cfg(test)]
-mod tests;

@@ -1,11 +1,11 @@
 -- A run goes on.
-use Rattle.std.proofs.Common.{◌≡◌, ℕ, ◌+◌, Bool, true, false, ◌||◌, List, [], ◌∷◌, ◌++◌, length, Option, Some, None, refl, sym, ap, ◌∙◌, append_assoc, append-nil, arith, length-append}
+use Rattle.std.proofs.Common.{◌≡◌, ℕ, ◌+◌, Bool, true, false, ◌||◌, List, [], ◌∷◌, ◌++◌, length, Option, Some, None, refl, sym, ap, ◌∙◌, subst, append_assoc, append-nil, arith, length-append}
 use Rattle.std.specs.Io.KnownBytes.{Appends}
 use Rattle.std.specs.Option.{option_map}
 use Rattle.pf_source.specs.Causes.{RoseBy}
 use Rattle.pf_source.specs.Files.{StaysHeld}
-use Rattle.pf_runs.specs.Runs.{Disk, Step, Event, World, AddsNames, Goes, Executes, Stops, StopsAt, Answers, Cause, Write_failed, Out_of_memory, lines_in, reply_text, output, any_refused, unread, without}
-use Rattle.pf_runs.proofs.Appended.{machine_after-append, output-append, unread-append, any_refused-append, lines_in-append, HaveNoOutage-append, or_assoc}
+use Rattle.pf_runs.specs.Runs.{Disk, Step, Event, Follow, World, AddsNames, Goes, Executes, Stops, StopsAt, Answers, Cause, Write_failed, Out_of_memory, lines_in, reply_text, machine_after, output, any_refused, unread}
+use Rattle.pf_runs.proofs.Appended.{machine_after-append, Follow-append, output-append, unread-append, any_refused-append, lines_in-append, HaveNoOutage-append, or_assoc}
 
 pub Appends-nothing : (written : Option (List ℕ)) → Appends written written []
 Appends-nothing None = tt
@@ -39,6 +39,7 @@ or_false false = refl
 
 pub goes_nowhere : {M : Type 0} (step : Step M) (disk : Disk) (world : World M) → Goes step disk world [] world
 goes_nowhere step disk world = record {
+  follow = tt;
   machine = refl;
   refused = sym (or_false world.refused);
   written = Appends-nothing world.sink.written;
@@ -48,14 +49,15 @@ goes_nowhere step disk world = record {
   sure = λ h. tt;
 }
 
-pub goes_on : {M : Type 0} (step : Step M) (disk : Disk) (a b c : World M) (xs ys : List Event) → Goes step disk a xs b → Goes step disk b ys c → Goes step disk a (xs ++ ys) c
+pub goes_on : {M : Type 0} (step : Step M) (disk : Disk) (a b c : World M) (xs ys : List (Event M)) → Goes step disk a xs b → Goes step disk b ys c → Goes step disk a (xs ++ ys) c
 goes_on step disk a b c xs ys h k = record {
-  machine = rw (machine_after-append step disk a.machine xs ys, ← h.machine) k.machine;
-  refused = rw (any_refused-append step disk a.machine xs ys, ← h.machine, or_assoc a.refused (any_refused step disk a.machine xs) (any_refused step disk b.machine ys), ← h.refused) k.refused;
-  written = rw (output-append step disk a.machine xs ys, ← h.machine) (Appends-more a.sink.written b.sink.written c.sink.written (output step disk a.machine xs) (output step disk b.machine ys) h.written k.written);
+  follow = Follow-append step disk a.machine xs ys h.follow (subst (λ machine. Follow step disk machine ys) h.machine k.follow);
+  machine = k.machine ∙ (ap (λ machine. machine_after machine ys) h.machine ∙ sym (machine_after-append a.machine xs ys));
+  refused = rw (any_refused-append xs ys, or_assoc a.refused (any_refused xs) (any_refused ys), ← h.refused) k.refused;
+  written = rw (output-append xs ys) (Appends-more a.sink.written b.sink.written c.sink.written (output xs) (output ys) h.written k.written);
   held = record { held = k.held.held ∙ h.held.held; steady = k.held.steady ∙ h.held.steady };
-  counted = rw (unread-append step disk a.machine xs ys, ← h.machine, length-append (unread step disk a.machine xs) (unread step disk b.machine ys)) (RoseBy-more (length (unread step disk a.machine xs)) (length (unread step disk b.machine ys)) a.files.faults b.files.faults c.files.faults h.counted k.counted);
-  named = rw (unread-append step disk a.machine xs ys, ← h.machine) (AddsNames-more (unread step disk a.machine xs) (unread step disk b.machine ys) a.files.failed b.files.failed c.files.failed h.named k.named);
+  counted = rw (unread-append xs ys, length-append (unread xs) (unread ys)) (RoseBy-more (length (unread xs)) (length (unread ys)) a.files.faults b.files.faults c.files.faults h.counted k.counted);
+  named = rw (unread-append xs ys) (AddsNames-more (unread xs) (unread ys) a.files.failed b.files.failed c.files.failed h.named k.named);
   sure = λ steady. HaveNoOutage-append xs ys (h.sure steady) (k.sure (h.held.steady ∙ steady));
 }
 
@@ -100,15 +102,16 @@ stops_sooner step disk cause xs ys a c h = record {
 -- a line whose reply was written whole was executed
 pub executes_answered : {M : Type 0} (step : Step M) (disk : Disk) (line : List ℕ) (before after : World M) (reply : List ℕ) (refused : Bool) → Answers step disk line before.machine before.files after.machine after.files reply refused → after.refused ≡ (before.refused || refused) → Appends before.sink.written after.sink.written reply → Executes step disk (line ∷ []) before after
 executes_answered step disk line before after reply refused h r w = record {
-  events = record { line = line; outage = h.outage } ∷ [];
+  events = record { line = line; outage = h.outage; does = h.does } ∷ [];
   are = refl;
   goes = record {
+    follow = (h.steps, tt);
     machine = h.machine;
-    refused = rw (or_false (step (without h.outage disk) before.machine line).refused, ← h.refuses) r;
-    written = rw (append-nil (reply_text (step (without h.outage disk) before.machine line).reply), ← h.replies) w;
+    refused = rw (or_false h.does.refused, ← h.refuses) r;
+    written = rw (append-nil (reply_text h.does.reply), ← h.replies) w;
     held = h.held;
-    counted = rw (append-nil (step (without h.outage disk) before.machine line).unread) h.counted;
-    named = rw (append-nil (step (without h.outage disk) before.machine line).unread) h.named;
+    counted = rw (append-nil h.does.unread) h.counted;
+    named = rw (append-nil h.does.unread) h.named;
     sure = λ steady. (h.sure steady, tt);
   };
 }

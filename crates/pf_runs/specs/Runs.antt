@@ -19,54 +19,56 @@ pub record Stepped (M : Type 0) : Type 0 where
   pub refused : Bool
   pub unread : List (List ℕ)
 
--- The step of a machine: by the files, the machine before and the line
-abbrev pub Step : Type 0 → Type 0
-Step M = Disk → M → List ℕ → Stepped M
+-- The step of a machine relates the files, the machine before and the line to what the line does.
+abbrev pub Step : Type 0 → Type 1
+Step M = Disk → M → List ℕ → Stepped M → Type 0
 
 -- An outage: the file of this name is as if absent
 abbrev pub without : Option (List ℕ) → Disk → Disk
 without None disk = disk
 without (Some absent) disk = λ name. if pointwise nat_eq name absent then None else disk name
 
--- A line is executed, with an outage or none
-pub record Event : Type 0 where
+-- A line is executed, with an outage or none, and does this
+pub record Event (M : Type 0) : Type 0 where
   pub line : List ℕ
   pub outage : Option (List ℕ)
+  pub does : Stepped M
 
-abbrev pub lines_in : List Event → List (List ℕ)
+abbrev pub lines_in : {M : Type 0} → List (Event M) → List (List ℕ)
 lines_in events = map (λ event. event.line) events
 
-abbrev pub HaveNoOutage : List Event → Type 0
+abbrev pub HaveNoOutage : {M : Type 0} → List (Event M) → Type 0
 HaveNoOutage [] = Unit {0}
 HaveNoOutage (event ∷ events) = (event.outage ≡ None) × HaveNoOutage events
+
+-- Each event does what the step relates, from the machine that the one before left
+abbrev pub Follow : {M : Type 0} → Step M → Disk → M → List (Event M) → Type 0
+Follow step disk machine [] = Unit {0}
+Follow step disk machine (event ∷ events) = step (without event.outage disk) machine event.line event.does × Follow step disk event.does.machine events
 
 -- the bytes of a reply: each line with a newline
 abbrev pub reply_text : List (List ℕ) → List ℕ
 reply_text reply = flat_map (λ line. line ++ 10 ∷ []) reply
 
--- what one event does
-abbrev pub stepped : {M : Type 0} → Step M → Disk → M → Event → Stepped M
-stepped step disk machine event = step (without event.outage disk) machine event.line
-
 -- the machine after events
-abbrev pub machine_after : {M : Type 0} → Step M → Disk → M → List Event → M
-machine_after step disk machine [] = machine
-machine_after step disk machine (event ∷ events) = machine_after step disk (stepped step disk machine event).machine events
+abbrev pub machine_after : {M : Type 0} → M → List (Event M) → M
+machine_after machine [] = machine
+machine_after machine (event ∷ events) = machine_after event.does.machine events
 
 -- what is written: the replies to the events, one after another
-abbrev pub output : {M : Type 0} → Step M → Disk → M → List Event → List ℕ
-output step disk machine [] = []
-output step disk machine (event ∷ events) = reply_text (stepped step disk machine event).reply ++ output step disk (stepped step disk machine event).machine events
+abbrev pub output : {M : Type 0} → List (Event M) → List ℕ
+output [] = []
+output (event ∷ events) = reply_text event.does.reply ++ output events
 
 -- was some line refused?
-abbrev pub any_refused : {M : Type 0} → Step M → Disk → M → List Event → Bool
-any_refused step disk machine [] = false
-any_refused step disk machine (event ∷ events) = (stepped step disk machine event).refused || any_refused step disk (stepped step disk machine event).machine events
+abbrev pub any_refused : {M : Type 0} → List (Event M) → Bool
+any_refused [] = false
+any_refused (event ∷ events) = event.does.refused || any_refused events
 
 -- the names of the files for which lines were refused because they can't be read, in the order of the lines
-abbrev pub unread : {M : Type 0} → Step M → Disk → M → List Event → List (List ℕ)
-unread step disk machine [] = []
-unread step disk machine (event ∷ events) = (stepped step disk machine event).unread ++ unread step disk (stepped step disk machine event).machine events
+abbrev pub unread : {M : Type 0} → List (Event M) → List (List ℕ)
+unread [] = []
+unread (event ∷ events) = event.does.unread ++ unread events
 
 -- What stands at one moment: the machine, whether some line was refused so far, and what the files and the sink tell
 pub record World (M : Type 0) : Type 0 where
@@ -80,20 +82,21 @@ abbrev pub AddsNames : List (List ℕ) → Option (List (List ℕ)) → Option (
 AddsNames added old new = new ≡ option_map (λ names. names ++ added) old
 
 -- From before to after, these events were executed, each to its end, and nothing else was written.
-pub record Goes {M : Type 0} (step : Step M) (disk : Disk) (before : World M) (events : List Event) (after : World M) : Type 0 where
-  pub machine : after.machine ≡ machine_after step disk before.machine events
-  pub refused : after.refused ≡ (before.refused || any_refused step disk before.machine events)
-  pub written : Appends before.sink.written after.sink.written (output step disk before.machine events)
+pub record Goes {M : Type 0} (step : Step M) (disk : Disk) (before : World M) (events : List (Event M)) (after : World M) : Type 0 where
+  pub follow : Follow step disk before.machine events
+  pub machine : after.machine ≡ machine_after before.machine events
+  pub refused : after.refused ≡ (before.refused || any_refused events)
+  pub written : Appends before.sink.written after.sink.written (output events)
   pub held : StaysHeld before.files after.files
   -- each line that was refused for a file, and so each outage that shows, is one of the reads that failed
-  pub counted : RoseBy (length (unread step disk before.machine events)) before.files.faults after.files.faults
-  pub named : AddsNames (unread step disk before.machine events) before.files.failed after.files.failed
+  pub counted : RoseBy (length (unread events)) before.files.faults after.files.faults
+  pub named : AddsNames (unread events) before.files.failed after.files.failed
   -- steady files have no outage
   pub sure : before.files.steady ≡ true → HaveNoOutage events
 
 -- These lines were executed, each to its end, with some outages.
 pub record Executes {M : Type 0} (step : Step M) (disk : Disk) (lines : List (List ℕ)) (before after : World M) : Type 0 where
-  pub events : List Event
+  pub events : List (Event M)
   pub are : lines_in events ≡ lines
   pub goes : Goes step disk before events after
 
@@ -101,12 +104,14 @@ pub record Executes {M : Type 0} (step : Step M) (disk : Disk) (lines : List (Li
 -- which aren't written yet, and whether it was refused.
 pub record Answers {M : Type 0} (step : Step M) (disk : Disk) (line : List ℕ) (before : M) (files : FilesTold) (after : M) (files' : FilesTold) (reply : List ℕ) (refused : Bool) : Type 0 where
   pub outage : Option (List ℕ)
-  pub machine : after ≡ (step (without outage disk) before line).machine
-  pub replies : reply ≡ reply_text (step (without outage disk) before line).reply
-  pub refuses : refused ≡ (step (without outage disk) before line).refused
+  pub does : Stepped M
+  pub steps : step (without outage disk) before line does
+  pub machine : after ≡ does.machine
+  pub replies : reply ≡ reply_text does.reply
+  pub refuses : refused ≡ does.refused
   pub held : StaysHeld files files'
-  pub counted : RoseBy (length (step (without outage disk) before line).unread) files.faults files'.faults
-  pub named : AddsNames (step (without outage disk) before line).unread files.failed files'.failed
+  pub counted : RoseBy (length does.unread) files.faults files'.faults
+  pub named : AddsNames does.unread files.failed files'.failed
   pub sure : files.steady ≡ true → outage ≡ None
 
 -- A line was executed, and of its reply a front was written; then the write failed.

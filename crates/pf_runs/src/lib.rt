@@ -4,21 +4,26 @@
 #![tactic(auto)]
 
 ghost use Rattle.std.specs.Prelude.{ℕ, List, [], ◌++◌};
-ghost use Rattle.pf_runs.specs.Runs.{Cause, Disk, Executes, Step, Stops, World};
+ghost use Rattle.pf_runs.specs.Runs.{Cause, Disk, Executes, Stepped, Stops, World};
+
+/// A machine, by its step: what a line does, by the files and the machine before it.
+pub trait Machine {
+    ghost step: { Disk → Self → List ℕ → Stepped Self → Type 0 };
+}
 
 /// Where no line is executed, nothing is done.
-pub fn nothing_is_a_run<M>()
-    ensures { (step : Step M) (disk : Disk) (world : World M) → Executes step disk [] world world }
+pub fn nothing_is_a_run<M: Machine>()
+    ensures { (disk : Disk) (world : World M) → Executes M.step disk [] world world }
 {}
 
 /// Two runs, one after the other, are the run over the lines of both.
-pub fn runs_join<M>()
-    ensures { (step : Step M) (disk : Disk) (xs ys : List (List ℕ)) (a b c : World M) →
-        Executes step disk xs a b → Executes step disk ys b c → Executes step disk (xs ++ ys) a c }
+pub fn runs_join<M: Machine>()
+    ensures { (disk : Disk) (xs ys : List (List ℕ)) (a b c : World M) →
+        Executes M.step disk xs a b → Executes M.step disk ys b c → Executes M.step disk (xs ++ ys) a c }
 {}
 
 /// A run that stops behind executed lines is a run over all of them that stops.
-pub fn runs_stop_later<M>()
-    ensures { (step : Step M) (disk : Disk) (cause : Cause) (xs ys : List (List ℕ)) (a b c : World M) →
-        Executes step disk xs a b → Stops step disk cause ys b c → Stops step disk cause (xs ++ ys) a c }
+pub fn runs_stop_later<M: Machine>()
+    ensures { (disk : Disk) (cause : Cause) (xs ys : List (List ℕ)) (a b c : World M) →
+        Executes M.step disk xs a b → Stops M.step disk cause ys b c → Stops M.step disk cause (xs ++ ys) a c }
 {}

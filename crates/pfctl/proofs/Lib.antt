@@ -4,3 +4,4 @@ pub mod Lines
 pub mod Loads
 pub mod Programs
 pub mod Sessions
+pub mod Steps

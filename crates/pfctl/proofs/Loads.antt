@@ -1,5 +1,5 @@
 -- What a load does, by what the read of its file gave.
-use Rattle.std.proofs.Common.{◌≡◌, ℕ, Bool, true, false, cond, List, [], ◌∷◌, length, codes, Option, Some, None, Result, Ok, Err, refl, sym, ap, ◌∙◌, nat_le}
+use Rattle.std.proofs.Common.{◌≡◌, ℕ, Bool, true, false, cond, List, [], ◌∷◌, length, codes, Option, Some, None, Result, Ok, Err, refl, sym, ap, subst, nat_le}
 use Rattle.std.proofs.lemmas.Bool.{lt-leb, eq-eqb}
 use Rattle.std.specs.Cmp.Lexicographic.{pointwise}
 use Rattle.std.specs.Prelude.{nat_eq}
@@ -9,12 +9,13 @@ use Rattle.pf_source.specs.Causes.{RoseBy}
 use Rattle.pf_source.specs.Files.{StaysHeld, IsLonger}
 use Rattle.pf_source.specs.Told.{FilesTold, Told, file_of}
 use Rattle.pf_runs.specs.Runs.{Disk, Stepped, AddsNames, Answers, reply_text, without}
+use Rattle.pfctl.specs.Command.{Load}
 use Rattle.pfctl.specs.Doing.{Does, MayFail}
 use Rattle.pfctl.specs.Machine.{Machine}
 use Rattle.pfctl.specs.Program.{is_file_word, load_line}
 use Rattle.pfctl.specs.Replies.{load_fault_text, cannot_read_text}
 use Rattle.pfctl.specs.Step.{cannot_read, refused, load_found, load_rules, load_text, most_file, step, step_load}
-use Rattle.pfctl.proofs.Lines.{step_load_line}
+use Rattle.pfctl.proofs.Lines.{command_of_load, steps_by}
 
 none_unread : (machine : Machine) (file : List ℕ) (read : Result (List Rule) ℕ) → (load_rules machine file read).unread ≡ []
 none_unread machine file (Ok rules) = refl
@@ -26,22 +27,23 @@ load_text_unread machine file text =
     [ true ↦ none_unread machine file (rules_of text) | false ↦ refl ]
 
 -- what a load does with what the disk has under the file's name
-loads : (disk : Disk) (machine : Machine) (file : List ℕ) (found : Option (List ℕ)) → is_file_word file ≡ true → disk file ≡ found → step disk machine (load_line file) ≡ load_found machine file found
+loads : (disk : Disk) (machine : Machine) (file : List ℕ) (found : Option (List ℕ)) → is_file_word file ≡ true → disk file ≡ found → step disk machine (load_line file) (load_found machine file found)
 unfolding step_load
-loads disk machine file found word h = step_load_line disk machine file word ∙ ap (load_found machine file) h
+loads disk machine file found word h = steps_by disk machine (load_line file) (Load file) (load_found machine file found) (command_of_load file word) (sym (ap (load_found machine file) h))
 
 -- the file was read whole
 pub load_answers : (old new : FilesTold) (machine machine' : Machine) (file text reply : List ℕ) (any : Bool) → is_file_word file ≡ true → StaysHeld old new → RoseBy 0 old.faults new.faults → AddsNames [] old.failed new.failed → Told old.held (λ held. file_of held file ≡ Some text) → Does (load_text machine file text) machine' reply any
     → Told old.held (λ held. Answers step (file_of held) (load_line file) machine old machine' new reply any)
 load_answers old new machine machine' file text reply any word stays counted named content does = record {
   at = λ held is.
-      let e : step (file_of held) machine (load_line file) ≡ load_text machine file text = loads (file_of held) machine file (Some text) word (content.at held is) in
-      let unread : (step (file_of held) machine (load_line file)).unread ≡ [] = ap (λ (s : Stepped Machine). s.unread) e ∙ load_text_unread machine file text in
+      let unread : (load_text machine file text).unread ≡ [] = load_text_unread machine file text in
       record {
         outage = None;
-        machine = does.machine_is ∙ ap (λ (s : Stepped Machine). s.machine) (sym e);
-        replies = does.reply_is ∙ ap (λ (s : Stepped Machine). reply_text s.reply) (sym e);
-        refuses = does.refused_is ∙ ap (λ (s : Stepped Machine). s.refused) (sym e);
+        does = load_text machine file text;
+        steps = loads (file_of held) machine file (Some text) word (content.at held is);
+        machine = does.machine_is;
+        replies = does.reply_is;
+        refuses = does.refused_is;
         held = stays;
         counted = rw unread counted;
         named = rw unread named;
@@ -57,15 +59,18 @@ large_answers old new machine file reply word stays counted named longer is_repl
       let long = longer.at held is in
       let bytes = long.bytes in
       let over : nat_le (length bytes) most_file ≡ false = lt-leb (length bytes) most_file long.longer in
-      let e : step (file_of held) machine (load_line file) ≡ refused machine (load_fault_text (codes "TooLarge") file 0) = loads (file_of held) machine file (Some bytes) word long.is ∙ rw over refl in
+      let does : Stepped Machine = refused machine (load_fault_text (codes "TooLarge") file 0) in
+      let e : load_found machine file (Some bytes) ≡ does = rw over refl in
       record {
         outage = None;
-        machine = ap (λ (s : Stepped Machine). s.machine) (sym e);
-        replies = is_reply ∙ ap (λ (s : Stepped Machine). reply_text s.reply) (sym e);
-        refuses = ap (λ (s : Stepped Machine). s.refused) (sym e);
+        does = does;
+        steps = subst (λ (s : Stepped Machine). step (file_of held) machine (load_line file) s) e (loads (file_of held) machine file (Some bytes) word long.is);
+        machine = refl;
+        replies = is_reply;
+        refuses = refl;
         held = stays;
-        counted = rw e counted;
-        named = rw e named;
+        counted = counted;
+        named = named;
         sure = λ steady. refl;
       };
 }
@@ -101,15 +106,16 @@ pub unread_answers : (old new : FilesTold) (machine : Machine) (file reply : Lis
 unread_answers old new machine file reply word stays counted named absent_if is_reply = record {
   at = λ held is.
       let disk : Disk = without (outage_of file (file_of held file)) (file_of held) in
-      let e : step disk machine (load_line file) ≡ cannot_read machine file = loads disk machine file None word (absent_at (file_of held) file (file_of held file) refl) in
       record {
         outage = outage_of file (file_of held file);
-        machine = ap (λ (s : Stepped Machine). s.machine) (sym e);
-        replies = is_reply ∙ ap (λ (s : Stepped Machine). reply_text s.reply) (sym e);
-        refuses = ap (λ (s : Stepped Machine). s.refused) (sym e);
+        does = cannot_read machine file;
+        steps = loads disk machine file None word (absent_at (file_of held) file (file_of held file) refl);
+        machine = refl;
+        replies = is_reply;
+        refuses = refl;
         held = stays;
-        counted = rw e counted;
-        named = rw e named;
+        counted = counted;
+        named = named;
         sure = λ steady. steady_has_none file (file_of held file) ((absent_if steady).at held is);
       };
 }

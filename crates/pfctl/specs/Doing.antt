@@ -1,5 +1,5 @@
 -- What the parts of the program do: a step of the machine, a write of its reply, lines that are executed.
-use Rattle.std.specs.Prelude.{◌≡◌, ℕ, ◌+◌, ◌<◌, ◌≤◌, Bool, true, false, List, length, take, Result, Ok, Err}
+use Rattle.std.specs.Prelude.{◌≡◌, ℕ, ◌+◌, ◌<◌, ◌≤◌, Bool, true, false, List, [], length, take, Result, Ok, Err}
 use Rattle.std.specs.Io.KnownBytes.{Appends, IsAtEnd, Keeps}
 use Rattle.pf_base.specs.Text.{lines_of, whole_lines}
 use Rattle.pf_source.specs.Causes.{Rose}
@@ -27,6 +27,13 @@ pub record Does (stepped : Stepped Machine) (machine : Machine) (reply : List �
   pub machine_is : machine ≡ stepped.machine
   pub reply_is : reply ≡ reply_text stepped.reply
   pub refused_is : refused ≡ stepped.refused
+
+-- The line does this and asks for no file: the machine after it, the bytes of its reply, and whether it is refused.
+pub record DoesAlone (disk : Disk) (machine : Machine) (line : List ℕ) (after : Machine) (reply : List ℕ) (refused : Bool) : Type 0 where
+  pub does : Stepped Machine
+  pub steps : step disk machine line does
+  pub is : Does does after reply refused
+  pub alone : does.unread ≡ []
 
 -- files that may have failed in a call
 pub record MayFail (old new : FilesTold) : Type 0 where

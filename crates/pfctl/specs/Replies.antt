@@ -1,8 +1,6 @@
 -- The text of the replies.
 use Rattle.std.specs.Prelude.{ℕ, List, ◌++◌, codes}
 use Rattle.std.specs.Fmt.{decimal}
-use Rattle.pf_base.specs.declared.fault.FaultKind.{FaultKind}
-use Rattle.pf_base.specs.declared.fault.FaultKind.TheVariants as kinds
 use Rattle.pf_rule.specs.declared.record.Field.{Field}
 use Rattle.pf_rule.specs.declared.record.Field.TheVariants as field
 
@@ -21,11 +19,6 @@ load_fault_text kind file line = codes "refused 2 LoadFault " ++ kind ++ codes "
 -- a read of the file failed
 abbrev pub cannot_read_text : List ℕ → List ℕ
 cannot_read_text file = codes "refused 3 CannotRead " ++ file
-
--- the name of a kind of fault of a file
-abbrev pub kind_text : FaultKind → List ℕ
-kind_text kinds.TooLarge = codes "TooLarge"
-kind_text kinds.Syntax = codes "Syntax"
 
 abbrev pub field_text : Field → List ℕ
 field_text field.Direction = codes "direction"

@@ -1,5 +1,5 @@
 -- One step of the plain machine: what a line does (pfctl(8)).
-use Rattle.std.specs.Prelude.{ℕ, true, false, List, [], ◌∷◌, length, codes, Option, Some, None, Result, Ok, Err, nat_le, if◌then◌else◌}
+use Rattle.std.specs.Prelude.{◌≡◌, ℕ, true, false, List, [], ◌∷◌, length, codes, Option, Some, None, Result, Ok, Err, nat_le, if◌then◌else◌}
 use Rattle.pf_rule.specs.declared.rule.Rule.{Rule}
 use Rattle.pf_rule.specs.declared.packet.Packet.{Packet}
 use Rattle.pf_rule.specs.declared.record.PacketFault.{PacketFault}
@@ -24,42 +24,36 @@ refused machine reply = record { machine = machine; reply = reply ∷ []; refuse
 abbrev pub cannot_read : Machine → List ℕ → Stepped Machine
 cannot_read machine file = record { machine = machine; reply = cannot_read_text file ∷ []; refused = true; unread = file ∷ [] }
 
--- a file may have this many bytes
-abbrev pub most_file : ℕ
-most_file = 4194304
+-- what a load that came to this does: its rules replace those in force, or the first fault refuses it
+abbrev pub after_load : Machine → Outcome → Stepped Machine
+after_load machine (Ok rules) = done (record { rules = rules }) (loaded_text (length rules))
+after_load machine (Err (File kind place name)) = refused machine (load_fault_text (kind_text kind) name place.line)
+after_load machine (Err (CannotRead name)) = cannot_read machine name
+after_load machine (Err NoMemory) = refused machine []
 
--- the rules of a text replace those in force, or its first fault refuses the load
-abbrev pub load_rules : Machine → List ℕ → Result (List Rule) ℕ → Stepped Machine
-load_rules machine file (Ok rules) = done (record { rules = rules }) (loaded_text (length rules))
-load_rules machine file (Err line) = refused machine (load_fault_text (codes "Syntax") file line)
-
-abbrev pub load_text : Machine → List ℕ → List ℕ → Stepped Machine
-load_text machine file text =
-    if nat_le (length text) most_file then load_rules machine file (rules_of text)
-    else refused machine (load_fault_text (codes "TooLarge") file 0)
-
-abbrev pub load_found : Machine → List ℕ → Option (List ℕ) → Stepped Machine
-load_found machine file None = cannot_read machine file
-load_found machine file (Some text) = load_text machine file text
-
--- `load FILE`
-unfoldable pub step_load : Disk → Machine → List ℕ → Stepped Machine
-step_load disk machine file = load_found machine file (disk file)
+-- `load OPTS FILE`: by what the load comes to over the disk
+pub record LoadDoes (disk : Disk) (machine : Machine) (defines : List Define) (file : List ℕ) (does : Stepped Machine) : Type 0 where
+  pub outcome : Outcome
+  pub loads : Loads disk defines file outcome
+  pub is : does ≡ after_load machine outcome
 
 -- the packet's answer is that of the last-match walk over the rules in force
 abbrev pub test_packet : Machine → Result Packet PacketFault → Stepped Machine
 test_packet machine (Ok packet) = done machine (answer_text (answer_of machine.rules packet))
 test_packet machine (Err fault) = refused machine (bad_packet_text fault.0)
 
--- `test RECORD`
-unfoldable pub step_test : Machine → List ℕ → Stepped Machine
-step_test machine text = test_packet machine (packet_of text)
+-- `test RECORD`: by what the record is read as
+pub record TestDoes (machine : Machine) (text : List ℕ) (does : Stepped Machine) : Type 0 where
+  pub read : Result Packet PacketFault
+  pub reads : IsReadAs text read
+  pub is : does ≡ test_packet machine read
 
-abbrev pub step_command : Disk → Machine → Command → Stepped Machine
-step_command disk machine (Load file) = step_load disk machine file
-step_command disk machine (Test text) = step_test machine text
-step_command disk machine None_of_these = refused machine bad_command_text
+-- what a command does
+abbrev pub CommandDoes : Disk → Machine → Command → Stepped Machine → Type 0
+CommandDoes disk machine (Load defines file) does = LoadDoes disk machine defines file does
+CommandDoes disk machine (Test text) does = TestDoes machine text does
+CommandDoes disk machine None_of_these does = does ≡ refused machine bad_command_text
 
 -- what a line does
 unfoldable pub step : Step Machine
-step disk machine line = step_command disk machine (command_of line)
+step disk machine line does = CommandDoes disk machine (command_of line) does

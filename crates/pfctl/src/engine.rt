@@ -1,8 +1,10 @@
 //! The machine in memory, and its step for each kind of line.
-ghost use Rattle.std.specs.Prelude.{◌≡◌, ◌≤◌, true, false, length, IfOk, OnErr};
+ghost use Rattle.std.specs.Prelude.{◌≡◌, ◌≤◌, ℕ, List, true, false, length, IfOk, OnErr};
 ghost use Rattle.std.specs.List.{list_all};
 ghost use Rattle.pf_source.specs.Told.{Told, file_of};
-ghost use Rattle.pf_runs.specs.Runs.{Answers, Disk};
+ghost use Rattle.pf_runs.specs.Runs.{Answers, Disk, Stepped};
+ghost use Rattle.pfctl.specs.Machine.{Machine as PlainMachine};
+ghost use Rattle.pfctl.specs.Step.{step};
 ghost use Rattle.pfctl.specs.Command.{behind_blanks, is_plain};
 
 use crate::replies::{
@@ -13,6 +15,7 @@ use pf_base::text::is_blank_byte;
 use pf_base::{FaultKind, List, NoMemory, Steps, Text};
 use pf_load::{RulesFault, read_rules};
 use pf_rule::{Rule, evaluate, read_packet};
+use pf_runs::Machine;
 use pf_source::{Files, FilesFault};
 use std::alloc::Global;
 use std::marker::Model;
@@ -85,12 +88,24 @@ fn skip_blanks(text: &[u8]) -> &[u8]
     rest
 }
 
+impl Machine for Engine {
+    ghost use Rattle.pfctl.specs.Step.{step};
+
+    ghost step = { step };
+}
+
+/// A law: over the same files a line does one thing, so what is written is determined.
+pub fn a_line_does_one_thing()
+    ensures { (disk : Disk) (machine : PlainMachine) (line : List ℕ) (a b : Stepped PlainMachine) →
+        step disk machine line a → step disk machine line b → a ≡ b }
+{}
+
 impl Engine {
-    ghost use Rattle.pfctl.specs.Doing.{Does, MayFail, is_refused};
+    ghost use Rattle.pfctl.specs.Doing.{Does, DoesAlone, MayFail, is_refused};
     ghost use Rattle.pfctl.specs.Machine.{empty_machine};
     ghost use Rattle.pfctl.specs.Input.{test_line};
     ghost use Rattle.pfctl.specs.Program.{is_file_word, load_line};
-    ghost use Rattle.pfctl.specs.Step.{load_text, most_file, step, step_test};
+    ghost use Rattle.pfctl.specs.Step.{load_text, most_file, step_test};
 
     /// The empty machine.
     pub fn new(alloc: Global) -> Engine
@@ -157,16 +172,16 @@ impl Engine {
         }
     }
 
-    /// The line `test RECORD`, of which this is all behind `test` and a space. It changes nothing.
-    pub fn test(&self, record: &[u8], reply: &mut Vec<u8>) -> Result<Outcome, NoMemory>
-        ensures { IfOk result (λ outcome. (disk : Disk) → Does (step disk self.now (test_line record.now)) self.now reply.new.items (is_refused outcome)) }
+    /// The line `test RECORD`, of which this text is all behind `test` and a space. It changes nothing.
+    pub fn test(&self, text: &[u8], reply: &mut Vec<u8>) -> Result<Outcome, NoMemory>
+        ensures { IfOk result (λ outcome. (disk : Disk) → DoesAlone disk self.now (test_line text.now) self.now reply.new.items (is_refused outcome)) }
     {
-        let text = skip_blanks(record);
-        if !is_plain_text(record) || text.is_empty() {
+        let record = skip_blanks(text);
+        if !is_plain_text(text) || record.is_empty() {
             reply_bad_command(reply)?;
             return Ok(Outcome::Refused);
         }
-        self.answer(text, reply)
+        self.answer(record, reply)
     }
 
     // The answer to the packet of a record.

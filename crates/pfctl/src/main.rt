@@ -4,6 +4,7 @@
 #![tactic(auto)]
 
 mod engine;
+mod kinds;
 mod program;
 mod replies;
 mod session;

@@ -2,8 +2,10 @@
 ghost use Rattle.std.specs.Prelude.{◌≡◌, ◌++◌, [], ◌∷◌, codes, IfOk, OnOk};
 ghost use Rattle.pf_rule.specs.AnswerText.{answer_text};
 ghost use Rattle.pf_runs.specs.Runs.{reply_text};
-ghost use Rattle.pfctl.specs.Replies.{bad_command_text, bad_packet_text, cannot_read_text, field_text, kind_text, load_fault_text, loaded_text};
+ghost use Rattle.pfctl.specs.Replies.{bad_command_text, bad_packet_text, cannot_read_text, field_text, load_fault_text, loaded_text};
+ghost use Rattle.pfctl.specs.Kinds.{kind_text};
 
+use crate::kinds::put_kind;
 use pf_base::{FaultKind, NoMemory};
 use pf_rule::{Answer, Field, put_answer};
 use std::alloc::Global;
@@ -28,16 +30,6 @@ pub fn reply_bad_command(reply: &mut Vec<u8>) -> Result<(), NoMemory>
     Ok(())
 }
 
-// The name of a kind of fault.
-fn kind_name(kind: FaultKind) -> &'static [u8]
-    ensures { result.now ≡ kind_text kind }
-{
-    match kind {
-        FaultKind::TooLarge => b"TooLarge",
-        FaultKind::Syntax => b"Syntax",
-    }
-}
-
 /// A load that was refused for a fault at this line of the file.
 pub fn reply_load_fault(
     alloc: Global,
@@ -50,7 +42,7 @@ pub fn reply_load_fault(
 {
     reply.clear();
     reply.extend_from_slice(b"refused 2 LoadFault ")?;
-    reply.extend_from_slice(kind_name(kind))?;
+    put_kind(alloc, reply, kind)?;
     reply.extend_from_slice(b" ")?;
     reply.extend_from_slice(file)?;
     reply.extend_from_slice(b":")?;

@@ -1,6 +1,6 @@
 -- A newline ends the statement, or is skipped in list braces.
 use Rattle.std.proofs.Common.{sym, ◌∙◌, arith}
-use Rattle.pf_lexer.specs.Macros.{value_of}
+use Rattle.pf_token.specs.Macros.{value_of}
 use Rattle.pf_lexer.proofs.TakingLemmas.{turn_line, turn_skipped}
 use Rattle.pf_lexer.proofs.statement.pass_newline.Goals as goal
 

@@ -1,8 +1,8 @@
 -- The statement begins with no token, and ends with the file where none is in view.
 use Rattle.std.proofs.Common.{List, sym, subst, arith}
-use Rattle.pf_lexer.specs.declared.cell.Cell.{Cell}
+use Rattle.pf_token.specs.declared.cell.Cell.{Cell}
 use Rattle.pf_lexer.specs.declared.statement.Close.TheVariants.{End}
-use Rattle.pf_lexer.specs.Macros.{value_of}
+use Rattle.pf_token.specs.Macros.{value_of}
 use Rattle.pf_lexer.specs.Statements.{Ends, at_end}
 use Rattle.pf_lexer.proofs.TakingLemmas.{view_lighter}
 use Rattle.pf_lexer.proofs.statement.read_statement.Goals as goal

@@ -1,7 +1,7 @@
 use Rattle.std.proofs.Common.{◌≤◌, [], length}
-use Rattle.pf_lexer.specs.Macros.{value_of}
+use Rattle.pf_token.specs.Macros.{value_of}
 use Rattle.pf_lexer.specs.Statements.{most_tokens}
-use Rattle.pf_lexer.specs.Reading.{weight}
+use Rattle.pf_token.specs.Reading.{weight}
 use Rattle.pf_lexer.specs.Taking.{GoesOn, view_weight}
 use Rattle.pf_lexer.proofs.TakingLemmas.{IsLighter}
 use Rattle.pf_lexer.proofs.statement.read_statement.Given as goal

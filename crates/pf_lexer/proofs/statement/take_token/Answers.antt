@@ -2,8 +2,8 @@
 use Rattle.std.proofs.Common.{List, sym, subst, arith}
 use Rattle.pf_lexer.specs.declared.statement.Close.TheVariants.{Long}
 use Rattle.pf_lexer.specs.declared.statement.Turn.TheVariants.{Closed, Seen}
-use Rattle.pf_lexer.specs.declared.token.Lexeme.{Lexeme}
-use Rattle.pf_lexer.specs.Macros.{value_of}
+use Rattle.pf_token.specs.declared.token.Lexeme.{Lexeme}
+use Rattle.pf_token.specs.Macros.{value_of}
 use Rattle.pf_lexer.specs.Taking.{IsTurn}
 use Rattle.pf_lexer.proofs.TakingLemmas.{token_long, token_taken, one_over, not_over}
 use Rattle.pf_lexer.proofs.statement.take_token.Goals as goal

@@ -1,6 +1,0 @@
-use Rattle.std.proofs.Common.{◌≡◌}
-use Rattle.pf_lexer.specs.Units.{tokens_in}
-use Rattle.pf_lexer.proofs.unit.tokens_in.Given as goal
-
-abbrev pub invariant-loop-lexeme : goal.invariant-loop-lexeme
-invariant-loop-lexeme l = l.tokens.items ≡ tokens_in l.yielded

@@ -1,0 +1,10 @@
+pub mod CellLemmas
+pub mod DollarLemmas
+pub mod FileLemmas
+pub mod MapLemmas
+pub mod PieceSteps
+pub mod QuotedLemmas
+pub mod Runs
+pub mod Tokens
+pub mod ValueLemmas
+pub mod Weights

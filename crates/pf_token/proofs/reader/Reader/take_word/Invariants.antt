@@ -1,0 +1,14 @@
+use Rattle.std.proofs.Common.{◌≡◌, ◌++◌, length}
+use Rattle.pf_token.specs.Bytes.{is_word_byte}
+use Rattle.pf_token.specs.Cells.{bytes_of}
+use Rattle.pf_token.specs.Reading.{front, beyond}
+use Rattle.pf_token.proofs.reader.Reader.take_word.Given as goal
+
+abbrev pub invariant-loop-cell : goal.invariant-loop-cell
+invariant-loop-cell l = record {
+  text : l.text.items ++ bytes_of (front is_word_byte l.self) ≡ l.fn.text.items ++ bytes_of (front is_word_byte l.fn.self);
+  rest : beyond is_word_byte l.self ≡ beyond is_word_byte l.fn.self;
+}
+
+abbrev pub decreases-loop-cell : goal.decreases-loop-cell
+decreases-loop-cell l = length l.self

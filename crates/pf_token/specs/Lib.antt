@@ -1,0 +1,6 @@
+pub mod Bytes
+pub mod Cells
+pub mod Kinds
+pub mod Macros
+pub mod Pieces
+pub mod Reading
