@@ -100,8 +100,8 @@ abbrev pub weight_below : List (List Cell) → ℕ
 weight_below [] = 0
 weight_below (cells ∷ below) = 2 * weight cells + 1 + weight_below below
 
--- How much a unit has left to do, with the bytes that may still be read: each byte of a file may be a `$`, and an
--- include makes what is left of its file less than the file that it opens adds.
+-- How much a unit has left to do: the cells of its open files, and the bytes that may still be read, each as heavy as a `$`.
+-- An include makes this less too: the statement goes from its file, and the new file is no heavier than the bytes that it takes.
 abbrev pub unit_weight : Standing → ReadSoFar → ℕ
 unit_weight unit reads = 2 * weight unit.top + weight_below unit.below + 2 ^ 65 * reads.left
 

@@ -1,5 +1,5 @@
 //! The statements of a unit, one after the other: a file, with each include replaced by that file's statements, pf.conf(5).
-ghost use Rattle.std.specs.Prelude.{◌≡◌, ◌<◌, ◌≤◌, None, Option, List, IfOk, IfErr, OnSome, length};
+ghost use Rattle.std.specs.Prelude.{◌≡◌, ℕ, ◌<◌, ◌≤◌, None, Option, List, IfOk, IfErr, OnSome, length};
 ghost use Rattle.pf_source.specs.Causes.{RoseBy};
 ghost use Rattle.pf_source.specs.Files.{StaysHeld};
 ghost use Rattle.pf_source.specs.Told.{Told, file_of};
@@ -58,6 +58,7 @@ impl Lexer {
         ensures err { IfErr result (λ fault. Told (F.tells files.old).held (λ held. IsUnopened (file_of held) name.now reads.old fault reads.new)) }
         ensures known { IfOk result (λ lexer. lexer.known ≡ length reads.new.names) }
         ensures goes { IfOk result (λ lexer. IsGoing lexer.stage) }
+        ensures asked { IfErr result (λ fault. (other : List ℕ) → fault ≡ LexFault.CannotRead other → name.now ≡ other) }
         ensures places { IfErr result (λ fault. IsNumbered (length reads.new.names) fault) }
         ensures grows { GoesOn reads.old.names reads.new.names }
         ensures left { reads.new.left ≤ reads.old.left }
@@ -167,7 +168,8 @@ fn read_on<F: Files>(
     }
 }
 
-/// All statements of the unit whose first file has this name.
+/// All statements of the unit whose first file has this name. Its contract is the law that the calls of a lexer hand out
+/// a unit's statements, and no others; when a read may fail is said by the calls themselves.
 pub fn read_unit<F: Files>(
     alloc: Global,
     files: &mut F,

@@ -37,7 +37,7 @@ pub enum Cause {
     MacroUndefined(Name),
     /// A `$` that no name follows, or a definition of a name that no macro may have.
     MacroName,
-    /// An include inside 16 open files.
+    /// An include inside 16 includes.
     IncludeDepth,
     /// A file that is too large, a value of more than 8,192 bytes, or a statement of more than 16,384 tokens.
     TooLarge,
