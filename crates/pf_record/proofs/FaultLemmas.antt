@@ -6,7 +6,7 @@ use Rattle.pf_base.specs.Decimal.{decimal_of}
 use Rattle.pf_base.specs.Name.{is_plain_name, plain_name}
 use Rattle.pf_record.specs.declared.field.Field.{Field}
 use Rattle.pf_record.specs.declared.field.Field.TheVariants.{Sport, Dport, Flags, Icmptype, Code, Tos, Prio, User, Group, Tag, Extra}
-use Rattle.pf_record.specs.Keys.{Key, is_flags, is_missing, is_number, is_sound, is_word_of, key, key_of, keys, keys_fault, value_of, words_fault}
+use Rattle.pf_record.specs.Keys.{Key, is_flags, is_missing, is_number, is_sound, is_word_of, key, keys, keys_fault, value_of, words_fault}
 use Rattle.pf_record.specs.Reading.{AreCut, beginnings, behind_first, end_fault, fault_in, first_value, is_empty, list_of, rest_behind, value_behind, value_read, values_fault, values_in}
 use Rattle.pf_record.specs.Record.{Values, key_words, perhaps}
 use Rattle.pf_record.specs.Words.{flags_of, has_ports, has_types, is_tcp}

@@ -1,11 +1,11 @@
 -- The words of the keys that are given, and the values that are taken from them.
-use Rattle.std.proofs.Common.{◌≡◌, ℕ, Bool, true, false, ◌||◌, not, List, [], ◌∷◌, ◌++◌, Option, Some, None, length, drop, refl, ap, sym, ◌∙◌, append_assoc, rules, nat_eq, codes}
+use Rattle.std.proofs.Common.{◌≡◌, ℕ, Bool, true, false, not, List, [], ◌∷◌, ◌++◌, Option, Some, None, length, drop, refl, ap, sym, ◌∙◌, append_assoc, rules, nat_eq, codes}
 use Rattle.std.specs.List.{list_any, starts_with}
 use Rattle.std.specs.Option.{is_some}
 use Rattle.std.proofs.lemmas.Bool.Decides.{Decides-eqb}
 use Rattle.std.proofs.lemmas.List.{append-nil}
 use Rattle.std.proofs.lemmas.Slice.Eq.{starts_is}
-use Rattle.pf_record.specs.Reading.{TakesValue, TakesAll, AreCut, beginnings, behind_first, first_value, is_empty, list_of, rest_behind, value_behind, values_in}
+use Rattle.pf_record.specs.Reading.{TakesValue, TakesAll, AreCut, beginnings, behind_first, first_value, is_empty, list_of, rest_behind, values_in}
 use Rattle.pf_record.specs.Record.{Values, given, key_words}
 use Rattle.pf_record.proofs.KeyLemmas.{TakesAll-more, TakesAll-none}
 

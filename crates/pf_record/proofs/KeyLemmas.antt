@@ -1,8 +1,8 @@
 -- The values of keys, and the words that are left.
-use Rattle.std.proofs.Common.{◌≡◌, ℕ, Bool, true, false, not, List, [], ◌∷◌, Option, Some, None, refl, ap, sym, ◌∙◌}
+use Rattle.std.proofs.Common.{◌≡◌, ℕ, not, List, [], ◌∷◌, Option, Some, None, refl, ap, ◌∙◌}
 use Rattle.std.specs.List.{slice_get}
 use Rattle.std.specs.Option.{is_some, option_map}
-use Rattle.pf_record.specs.Reading.{is_empty, first_value, behind_first, values_in, rest_behind, TakesValue, TakesAll}
+use Rattle.pf_record.specs.Reading.{is_empty, values_in, rest_behind, TakesValue, TakesAll}
 
 -- a first word stands where the list isn't empty
 pub is_some-first : (words : List (List ℕ)) → is_some (slice_get words 0) ≡ not (is_empty words)

@@ -1,21 +1,19 @@
 -- A text is read in one way.
-use Rattle.std.proofs.Common.{◌≡◌, ℕ, Bool, true, false, List, [], ◌∷◌, ◌++◌, drop, Option, Some, None, Result, Ok, Err, refl, ap, sym, subst, ◌∙◌, eq-eqb}
+use Rattle.std.proofs.Common.{◌≡◌, ℕ, true, false, List, ◌∷◌, drop, Option, Some, None, Result, Ok, Err, refl, ap, sym, subst, ◌∙◌, eq-eqb}
 use Rattle.std.specs.List.{slice_get}
-use Rattle.std.specs.Option.{is_some, option_and_then, option_or}
+use Rattle.std.specs.Option.{option_and_then, option_or}
 use Rattle.pf_base.specs.Decimal.{decimal_of}
 use Rattle.pf_base.specs.Name.{plain_name}
 use Rattle.pf_base.specs.Text.{fields_of}
-use Rattle.pf_addr.specs.Addr.{SameFamily, same_family, width}
+use Rattle.pf_addr.specs.Addr.{SameFamily}
 use Rattle.pf_addr.specs.declared.addr.Addr.{Addr}
-use Rattle.pf_rule.specs.declared.packet.Direction.{Direction}
 use Rattle.pf_rule.specs.declared.packet.Packet.{Packet}
 use Rattle.pf_record.specs.declared.field.Field.{Field}
 use Rattle.pf_record.specs.declared.field.Field.TheVariants as field
 use Rattle.pf_record.specs.declared.field.PacketFault.{PacketFault}
-use Rattle.pf_record.specs.declared.head.Start.{Start}
 use Rattle.pf_record.specs.Keys.{keys_fault}
-use Rattle.pf_record.specs.Reading.{AreCut, AreRead, IsPacketOf, end_fault, fault_in, lacks, list_of, value_read, values_fault, sport_read, dport_read, flags_read, icmptype_read, code_read, tos_read, prio_read, user_read, group_read, tag_read}
-use Rattle.pf_record.specs.Record.{AreAllowed, AreSaid, IsFaulty, IsReadAs, IsRecord, Values, Writes, fault_of, key_words, perhaps}
+use Rattle.pf_record.specs.Reading.{AreCut, AreRead, end_fault, lacks, list_of, values_fault, sport_read, dport_read, flags_read, icmptype_read, code_read, tos_read, prio_read, user_read, group_read, tag_read}
+use Rattle.pf_record.specs.Record.{AreAllowed, AreSaid, IsFaulty, IsReadAs, IsRecord, Values, Writes, fault_of, perhaps}
 use Rattle.pf_record.specs.Words.{direction_of, flags_of, has_ports, has_types, is_tcp, proto_of}
 use Rattle.pf_record.proofs.FaultLemmas.{keys_fault-values}
 use Rattle.pf_record.proofs.GivenLemmas.{AreCut-key_words}

@@ -1,9 +1,9 @@
 -- What a key says, by how it is read.
-use Rattle.std.proofs.Common.{◌≡◌, ℕ, Bool, true, false, not, ◌&&◌, List, Option, Some, None, Result, Ok, Err, IsTrue, IsSome, refl, ap, sym, ◌∙◌}
+use Rattle.std.proofs.Common.{◌≡◌, ℕ, Bool, true, false, List, Option, Some, None, Ok, IsTrue, IsSome, refl}
 use Rattle.std.specs.Option.{is_some, ok_or, option_or}
 use Rattle.pf_record.specs.declared.field.Field.{Field}
 use Rattle.pf_record.specs.declared.field.PacketFault.{PacketFault}
-use Rattle.pf_record.specs.Reading.{fault_in, lacks, value_read}
+use Rattle.pf_record.specs.Reading.{lacks, value_read}
 use Rattle.pf_record.specs.Record.{Says}
 
 found : {A : Type 0} (o : Option A) (fault : PacketFault) (x : A) → ok_or o fault ≡ Ok x → o ≡ Some x

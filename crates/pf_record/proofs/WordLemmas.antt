@@ -1,5 +1,5 @@
 -- The words of a record, one after the other.
-use Rattle.std.proofs.Common.{◌≡◌, ℕ, zero, suc, ◌+◌, List, [], ◌∷◌, drop, Option, refl, ap, ◌∙◌}
+use Rattle.std.proofs.Common.{◌≡◌, ℕ, zero, suc, List, [], ◌∷◌, drop, Option, refl, ap, ◌∙◌}
 use Rattle.std.specs.List.{slice_get}
 use Rattle.pf_record.specs.Reading.{TakesWord}
 

@@ -1,10 +1,9 @@
 -- What is printed between brackets, as the code has it.
-use Rattle.std.specs.Prelude.{ℕ, Bool, true, false, List, [], ◌∷◌, ◌++◌, Option, Some, None, codes, decimal, map, if◌then◌else◌}
+use Rattle.std.specs.Prelude.{ℕ, Bool, true, List, [], ◌∷◌, ◌++◌, Option, Some, None, codes, decimal, if◌then◌else◌}
 use Rattle.std.specs.Option.{option_map}
 use Rattle.pf_record.specs.declared.item.Item.{Item}
 use Rattle.pf_record.specs.declared.item.Item.TheVariants.{Word, Number, Named, PerSeconds, Table}
 use Rattle.pf_record.specs.NameText.{name_text}
-use Rattle.pf_record.specs.Parts.{in_brackets}
 use Rattle.pf_record.specs.StateText.{rate_text, overload_text}
 
 abbrev pub item_text : Item → List ℕ

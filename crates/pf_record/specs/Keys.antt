@@ -1,5 +1,5 @@
 -- The keys of a record: the words `key=value` behind its five first words.
-use Rattle.std.specs.Prelude.{ℕ, Bool, true, false, ◌&&◌, not, List, [], ◌∷◌, ◌++◌, length, drop, Option, Some, None, is_some, if◌then◌else◌, codes, find, nat_eq}
+use Rattle.std.specs.Prelude.{ℕ, Bool, true, false, ◌&&◌, not, List, [], ◌∷◌, length, drop, Option, Some, None, is_some, if◌then◌else◌, codes, find, nat_eq}
 use Rattle.std.specs.List.{list_any, starts_with}
 use Rattle.std.specs.Option.{option_or, option_map, option_map_or}
 use Rattle.pf_base.specs.Decimal.{decimal_of}

@@ -1,5 +1,5 @@
 -- Texts of parts, each of which may be left out.
-use Rattle.std.specs.Prelude.{ℕ, Bool, List, [], ◌∷◌, ◌++◌, Option, Some, None, is_some, if◌then◌else◌, codes, decimal}
+use Rattle.std.specs.Prelude.{ℕ, Bool, List, ◌++◌, Option, Some, None, is_some, if◌then◌else◌, codes, decimal}
 use Rattle.std.specs.List.{filter_map, join_by, list_any}
 use Rattle.std.specs.Option.{option_map}
 

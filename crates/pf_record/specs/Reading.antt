@@ -4,11 +4,10 @@ use Rattle.std.specs.Prelude.{◌≡◌, ℕ, Bool, true, false, ◌&&◌, not, 
 use Rattle.std.specs.List.{slice_get, starts_with}
 use Rattle.std.specs.Option.{option_or, option_and_then, option_copied, ok_or}
 use Rattle.pf_base.specs.Decimal.{decimal_of}
-use Rattle.pf_base.specs.Text.{fields_of, is_nothing}
-use Rattle.pf_base.specs.Name.{is_plain_name, plain_name}
+use Rattle.pf_base.specs.Text.{fields_of}
+use Rattle.pf_base.specs.Name.{plain_name}
 use Rattle.pf_addr.specs.Addr.{SameFamily}
 use Rattle.pf_addr.specs.declared.addr.Addr.{Addr}
-use Rattle.pf_rule.specs.declared.packet.Direction.{Direction}
 use Rattle.pf_rule.specs.declared.packet.Packet.{Packet}
 use Rattle.pf_record.specs.declared.field.Field.{Field}
 use Rattle.pf_record.specs.declared.field.Field.TheVariants.{Sport, Dport, Flags, Icmptype, Code, Tos, Prio, User, Group, Tag, Extra}

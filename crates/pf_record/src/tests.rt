@@ -74,11 +74,9 @@ fn records_are_read(rt: HostRuntime) -> Result<(), Fail> {
 fn the_first_fault_is_told(rt: HostRuntime) {
     for (record, fault, told) in [
         ("", Field::Direction, "direction"),
-        (" in em0 tcp", Field::Direction, "direction"),
         ("in  em0 tcp", Field::Interface, "interface"),
         ("in em0", Field::Protocol, "protocol"),
         ("in em0 256 x", Field::Protocol, "protocol"),
-        ("in em0 tcp", Field::Source, "source"),
         ("in em0 tcp 10.0.0 ::1", Field::Source, "source"),
         (
             "in em0 tcp ::1 10.0.0.1 x",

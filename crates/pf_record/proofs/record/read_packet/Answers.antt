@@ -1,7 +1,4 @@
-use Rattle.std.proofs.Common.{rules, ◌≡◌, Err, subst, sym, Result}
 use Rattle.std.proofs.lemmas.Result.{err_from_is_err_and}
-use Rattle.pf_rule.specs.declared.packet.Packet.{Packet}
-use Rattle.pf_record.specs.declared.field.PacketFault.{PacketFault}
 use Rattle.pf_record.specs.Record.{IsReadAs}
 use Rattle.pf_record.proofs.OneReading.{one_reading}
 use Rattle.pf_record.proofs.ReadLemmas.{IsFaulty-head, IsFaulty-keys, IsRecord-read, source_one, target_one}

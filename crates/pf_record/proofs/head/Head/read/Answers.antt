@@ -1,4 +1,4 @@
-use Rattle.std.proofs.Common.{◌≡◌, ap, ◌∙◌, rules, Option, List, ℕ, subst, sym}
+use Rattle.std.proofs.Common.{◌≡◌, ap, ◌∙◌, rules, Option, List, ℕ, subst}
 use Rattle.std.specs.Option.{option_copied, option_and_then}
 use Rattle.pf_base.specs.Name.{plain_name}
 use Rattle.pf_addr.specs.declared.addr.Addr.{Addr}
