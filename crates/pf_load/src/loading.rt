@@ -1,7 +1,7 @@
 //! A load: the rules of a file, with each include replaced by that file's statements.
-ghost use Rattle.std.specs.Prelude.{◌≡◌, ◌<◌, ◌≤◌, ℕ, Err, List, [], length};
+ghost use Rattle.std.specs.Prelude.{◌≡◌, ◌<◌, ◌≤◌, ℕ, Err, List, [], None, Some, length};
 ghost use Rattle.pf_source.specs.Told.{Told, file_of};
-ghost use Rattle.pf_runs.specs.Runs.{Disk};
+ghost use Rattle.pf_runs.specs.Runs.{Disk, without};
 ghost use Rattle.pf_token.specs.declared.macros.Define.{Define as Macro};
 ghost use Rattle.pf_lexer.specs.Calls.{IsGoing, IsNumbered, unread_by as unread_by_lexer};
 ghost use Rattle.pf_load.specs.Load.{Asks, Loads, LoadsOn, MayBe, Outcome, Tells, fault_at, fault_of, unread_by};
@@ -31,7 +31,9 @@ pub enum LoadFault {
     },
     /// A file that is absent, or whose read failed.
     #[error("a file that can't be read")]
-    CannotRead { name: Text },
+    CannotRead {
+        name: Text,
+    },
     /// No memory was found.
     #[error("no memory")]
     NoMemory,
@@ -149,3 +151,14 @@ pub fn a_load_comes_to_one_thing()
     lead_is_one();
     opening_is_one();
 }
+
+/// A law: a file that is absent is no outage. Over a disk without it a load comes to the same.
+pub fn an_absent_file_is_no_outage()
+    ensures { (disk : Disk) (defines : List Macro) (file name : List ℕ) (outcome : Outcome) → disk name ≡ None →
+        Loads (without (Some name) disk) defines file outcome → Loads disk defines file outcome }
+{}
+
+/// A law: no load comes to a want of memory.
+pub fn no_load_comes_to_want_of_memory()
+    ensures { (disk : Disk) (defines : List Macro) (file : List ℕ) → Loads disk defines file (Err no_memory) → ⊥ }
+{}

@@ -7,6 +7,11 @@ use Rattle.pf_base.specs.Name.{plain_name}
 use Rattle.pf_base.specs.Text.{fields_of}
 use Rattle.pf_addr.specs.Addr.{SameFamily}
 use Rattle.pf_addr.specs.declared.addr.Addr.{Addr}
+<<<<<<< HEAD
+=======
+use Rattle.pf_addr.proofs.Values.{IsAddrText-unique}
+use Rattle.pf_rule.specs.declared.packet.Direction.{Direction}
+>>>>>>> e9105c7 (A law: a record is read in one way)
 use Rattle.pf_rule.specs.declared.packet.Packet.{Packet}
 use Rattle.pf_record.specs.declared.field.Field.{Field}
 use Rattle.pf_record.specs.declared.field.Field.TheVariants as field
@@ -199,3 +204,14 @@ one_reading text (Ok p) (Err b) one_source one_target h g = absurd (no_fault _ p
 one_reading text (Err a) (Ok q) one_source one_target h g = absurd (no_fault _ q a.0 one_source one_target (whole _ q g) h)
 one_reading text (Err a) (Err b) one_source one_target h g =
     let same = one_fault _ b.0 a.0 one_source one_target g h in λ i. Err (record { 0 = same i })
+
+one_address : (word : Option (List ℕ)) → IsOne word
+one_address None a b h k = h ∙ sym k
+one_address (Some text) None None h k = refl
+one_address (Some text) None (Some y) h k = absurd (h y k)
+one_address (Some text) (Some x) None h k = absurd (k x h)
+one_address (Some text) (Some x) (Some y) h k = ap Some (IsAddrText-unique text x y h k)
+
+-- a text is read in one way
+pub read_one_way : (text : List ℕ) (r s : Result Packet PacketFault) → IsReadAs text r → IsReadAs text s → r ≡ s
+read_one_way text r s h k = one_reading text s r (one_address _) (one_address _) k h

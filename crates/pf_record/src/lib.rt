@@ -17,7 +17,7 @@ mod words;
 
 pub use answer::put_answer;
 pub use field::{Field, PacketFault};
-pub use record::read_packet;
+pub use record::{a_record_is_read_one_way, read_packet};
 
 #[cfg(test)]
 mod tests;

@@ -1,5 +1,5 @@
 //! The record of a packet.
-ghost use Rattle.std.specs.Prelude.{◌≡◌, Result};
+ghost use Rattle.std.specs.Prelude.{◌≡◌, ℕ, List, Result};
 ghost use Rattle.pf_record.specs.Record.{IsReadAs};
 
 use crate::field::PacketFault;
@@ -24,3 +24,8 @@ pub fn read_packet(text: &[u8]) -> Result<Packet, PacketFault>
     let packet = packet_of(&start, &KeyValues::cut(left))?;
     Ok(packet)
 }
+
+/// A law: a text is read in one way, as one packet or with one fault.
+pub fn a_record_is_read_one_way()
+    ensures { (text : List ℕ) (a b : Result Packet PacketFault) → IsReadAs text a → IsReadAs text b → a ≡ b }
+{}

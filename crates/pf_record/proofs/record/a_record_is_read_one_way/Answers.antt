@@ -1,0 +1,5 @@
+use Rattle.pf_record.proofs.OneReading.{read_one_way}
+use Rattle.pf_record.proofs.record.a_record_is_read_one_way.Goals as goal
+
+pub returns : goal.returns
+returns c = read_one_way
