@@ -7,11 +7,7 @@ use Rattle.pf_base.specs.Name.{plain_name}
 use Rattle.pf_base.specs.Text.{fields_of}
 use Rattle.pf_addr.specs.Addr.{SameFamily}
 use Rattle.pf_addr.specs.declared.addr.Addr.{Addr}
-<<<<<<< HEAD
-=======
 use Rattle.pf_addr.proofs.Values.{IsAddrText-unique}
-use Rattle.pf_rule.specs.declared.packet.Direction.{Direction}
->>>>>>> e9105c7 (A law: a record is read in one way)
 use Rattle.pf_rule.specs.declared.packet.Packet.{Packet}
 use Rattle.pf_record.specs.declared.field.Field.{Field}
 use Rattle.pf_record.specs.declared.field.Field.TheVariants as field
