@@ -1,3 +1,5 @@
+pub mod Commands
+pub mod Definitions
 pub mod Feeding
 pub mod Inputs
 pub mod Lines

@@ -1,5 +1,8 @@
 -- A run of the program: the load, and then the input.
-use Rattle.std.proofs.Common.{◌≡◌, ℕ, ◌<◌, ◌==◌, ◌&&◌, get_or, Bool, true, false, List, [], ◌∷◌, length, take, Ok, Err, refl, sym, subst, arith, inl}
+use Rattle.std.proofs.Common.{◌≡◌, ℕ, Bool, true, false, cond, codes, ◌&&◌, List, [], ◌∷◌, length, map, take, None, Some, Ok, Err, refl, sym, subst, arith, inl}
+use Rattle.std.specs.Prelude.{IfSome}
+use Rattle.std.specs.Str.{bytes_eq}
+use Rattle.std.specs.Cmp.{first_so, second_so}
 use Rattle.pf_base.specs.Text.{whole_lines, lines_of}
 use Rattle.pf_source.specs.Told.{FilesTold, SinkTold, SourceTold}
 use Rattle.pf_runs.specs.Runs.{Disk, World, Executes, Stops}
@@ -13,31 +16,29 @@ use Rattle.pfctl.specs.declared.session.Stop.TheVariants as stop
 use Rattle.pfctl.specs.Doing.{EndsInput, ReadsAll, ReadsUntilStop, RunsOver, StopsOver, cause_of, world}
 use Rattle.pfctl.specs.Input.{most_input, test_lines}
 use Rattle.pfctl.specs.Machine.{Machine, empty_machine}
-use Rattle.pfctl.specs.Program.{Broke, Finished, Means, Ran, is_file_word, is_visible, load_line, opening, outside, program_lines, status_at, status_by}
+use Rattle.pfctl.specs.Program.{Broke, Finished, Means, ProgramWords, Ran, gives_define, is_file_word, is_word, load_line, names_file, opening, outside, program_lines, status_at, status_by, words_read, words_with}
 use Rattle.pfctl.specs.Step.{step}
 use Rattle.pfctl.proofs.Inputs.{Consumes-nothing}
 use Rattle.pfctl.proofs.Sessions.{Keeps-same, may_fail_same, no_memory}
-use Rattle.std.specs.List.{list_all}
-use Rattle.std.proofs.lemmas.Bool.{ne_eqb}
 
 -- a session begins with the empty machine
 pub begins : (session : Session) (files : FilesTold) (source : SourceTold) (sink : SinkTold) → session.engine ≡ empty_machine → session.refused ≡ false → world session files sink ≡ opening (outside files source sink)
 begins session files source sink machine refused = λ i. record { machine = machine i; refused = refused i; files = files; sink = sink }
 
-module _ (disk : Disk) (file : List ℕ) (s0 s1 s2 : Session) (fa fb : FilesTold) (ia ib : SourceTold) (wa wb wc : SinkTold) (begin : world s0 fa wa ≡ opening (outside fa ia wa)) where
+module _ (disk : Disk) (words : ProgramWords) (s0 s1 s2 : Session) (fa fb : FilesTold) (ia ib : SourceTold) (wa wb wc : SinkTold) (begin : world s0 fa wa ≡ opening (outside fa ia wa)) where
   -- the load was executed
   abbrev Loaded : Type 0
-  Loaded = Executes step disk (load_line file ∷ []) (world s0 fa wa) (world s1 fb wb)
+  Loaded = Executes step disk (load_line words.define words.file ∷ []) (world s0 fa wa) (world s1 fb wb)
 
   -- the load and then the lines of the input
-  ran_on : Loaded → (lines : List (List ℕ)) → RunsOver s1 s2 wb wc lines → Ran disk (program_lines file lines) s2.refused (outside fa ia wa) (outside fb ib wc)
+  ran_on : Loaded → (lines : List (List ℕ)) → RunsOver s1 s2 wb wc lines → Ran disk (program_lines words lines) s2.refused (outside fa ia wa) (outside fb ib wc)
   ran_on loaded lines runs = record {
     machine = s2.engine;
-    executes = subst (λ (w : World Machine). Executes step disk (program_lines file lines) w (world s2 fb wc)) begin
-        (executes_on step disk (load_line file ∷ []) (test_lines lines) (world s0 fa wa) (world s1 fb wb) (world s2 fb wc) loaded (runs disk fb));
+    executes = subst (λ (w : World Machine). Executes step disk (program_lines words lines) w (world s2 fb wc)) begin
+        (executes_on step disk (load_line words.define words.file ∷ []) (test_lines lines) (world s0 fa wa) (world s1 fb wb) (world s2 fb wc) loaded (runs disk fb));
   }
 
-  broke_on : (why : Stop) → Loaded → ReadsUntilStop ia ib (StopsOver why s1 s2 wb wc) → Broke file disk (cause_of why) (outside fa ia wa) (outside fb ib wc)
+  broke_on : (why : Stop) → Loaded → ReadsUntilStop ia ib (StopsOver why s1 s2 wb wc) → Broke words disk (cause_of why) (outside fa ia wa) (outside fb ib wc)
   broke_on why loaded h = record {
     front = h.front;
     reads = h.reads;
@@ -46,29 +47,29 @@ module _ (disk : Disk) (file : List ℕ) (s0 s1 s2 : Session) (fa fb : FilesTold
     stopped = record {
       machine = s2.engine;
       any_refused = s2.refused;
-      stops = subst (λ (w : World Machine). Stops step disk (cause_of why) (program_lines file h.lines) w (world s2 fb wc)) begin
-          (stops_on step disk (cause_of why) (load_line file ∷ []) (test_lines h.lines) (world s0 fa wa) (world s1 fb wb) (world s2 fb wc) loaded (h.over disk fb));
+      stops = subst (λ (w : World Machine). Stops step disk (cause_of why) (program_lines words h.lines) w (world s2 fb wc)) begin
+          (stops_on step disk (cause_of why) (load_line words.define words.file ∷ []) (test_lines h.lines) (world s0 fa wa) (world s1 fb wb) (world s2 fb wc) loaded (h.over disk fb));
     };
   }
 
-  finished : Loaded → ReadsAll ia ib (RunsOver s1 s2 wb wc) → (refused : Bool) → s2.refused ≡ refused → Finished file disk refused (outside fa ia wa) (outside fb ib wc)
+  finished : Loaded → ReadsAll ia ib (RunsOver s1 s2 wb wc) → (refused : Bool) → s2.refused ≡ refused → Finished words disk refused (outside fa ia wa) (outside fb ib wc)
   finished loaded h refused e = record {
     front = h.front;
     reads = h.reads;
     ended = h.ended;
     within = h.within;
-    ran = subst (λ (b : Bool). Ran disk (program_lines file (lines_of h.front)) b (outside fa ia wa) (outside fb ib wc)) e (ran_on loaded (lines_of h.front) h.over);
+    ran = subst (λ (b : Bool). Ran disk (program_lines words (lines_of h.front)) b (outside fa ia wa) (outside fb ib wc)) e (ran_on loaded (lines_of h.front) h.over);
   }
 
   -- the run came to an end of the input
-  pub means_ended : Loaded → (end : Ending) (any : Bool) → s2.refused ≡ any → EndsInput s1 s2 ia ib wb wc (Ok end) → Means file disk (outside fa ia wa) (outside fb ib wc) (status_at end any)
+  pub means_ended : Loaded → (end : Ending) (any : Bool) → s2.refused ≡ any → EndsInput s1 s2 ia ib wb wc (Ok end) → Means words disk (outside fa ia wa) (outside fb ib wc) (status_at end any)
   means_ended loaded ending.AtEnd true e h = finished loaded h true e
   means_ended loaded ending.AtEnd false e h = finished loaded h false e
   means_ended loaded ending.ReadFault any e h = record { front = h.front; reads = h.reads; within = h.within; any_refused = s2.refused; ran = ran_on loaded (whole_lines h.front) h.over }
   means_ended loaded ending.TooMuch any e h = record { front = h.front; reads = h.reads; over = h.beyond; any_refused = s2.refused; ran = ran_on loaded (whole_lines (take most_input h.front)) h.over }
 
   -- the run stopped within the input
-  pub means_stopped : Loaded → (why : Stop) → EndsInput s1 s2 ia ib wb wc (Err why) → Means file disk (outside fa ia wa) (outside fb ib wc) (status_by (Err why))
+  pub means_stopped : Loaded → (why : Stop) → EndsInput s1 s2 ia ib wb wc (Err why) → Means words disk (outside fa ia wa) (outside fb ib wc) (status_by (Err why))
   means_stopped loaded stop.WriteFault h = broke_on stop.WriteFault loaded h
   means_stopped loaded stop.NoMemory h = broke_on stop.NoMemory loaded h
 
@@ -77,8 +78,8 @@ unfolding whole_lines
 no_lines = refl
 
 -- the run stopped at its load, before the input was read
-module _ (disk : Disk) (file : List ℕ) (s0 s1 : Session) (fa fb : FilesTold) (ia : SourceTold) (wa wb : SinkTold) (begin : world s0 fa wa ≡ opening (outside fa ia wa)) where
-  broke_first : (why : Stop) → Stops step disk (cause_of why) (load_line file ∷ []) (world s0 fa wa) (world s1 fb wb) → Broke file disk (cause_of why) (outside fa ia wa) (outside fb ia wb)
+module _ (disk : Disk) (words : ProgramWords) (s0 s1 : Session) (fa fb : FilesTold) (ia : SourceTold) (wa wb : SinkTold) (begin : world s0 fa wa ≡ opening (outside fa ia wa)) where
+  broke_first : (why : Stop) → Stops step disk (cause_of why) (load_line words.define words.file ∷ []) (world s0 fa wa) (world s1 fb wb) → Broke words disk (cause_of why) (outside fa ia wa) (outside fb ia wb)
   broke_first why h = record {
     front = [];
     reads = record { consumed = Consumes-nothing ia.left; given = omega arith };
@@ -87,17 +88,17 @@ module _ (disk : Disk) (file : List ℕ) (s0 s1 : Session) (fa fb : FilesTold) (
     stopped = record {
       machine = s1.engine;
       any_refused = s1.refused;
-      stops = subst (λ (w : World Machine). Stops step disk (cause_of why) (load_line file ∷ []) w (world s1 fb wb)) begin h;
+      stops = subst (λ (w : World Machine). Stops step disk (cause_of why) (load_line words.define words.file ∷ []) w (world s1 fb wb)) begin h;
     };
   }
 
-  pub means_unloaded : (why : Stop) → Stops step disk (cause_of why) (load_line file ∷ []) (world s0 fa wa) (world s1 fb wb) → Means file disk (outside fa ia wa) (outside fb ia wb) (status_by (Err why))
+  pub means_unloaded : (why : Stop) → Stops step disk (cause_of why) (load_line words.define words.file ∷ []) (world s0 fa wa) (world s1 fb wb) → Means words disk (outside fa ia wa) (outside fb ia wb) (status_by (Err why))
   means_unloaded stop.WriteFault h = broke_first stop.WriteFault h
   means_unloaded stop.NoMemory h = broke_first stop.NoMemory h
 
 -- no memory for the file's name: nothing was done
-pub means_nothing : (disk : Disk) (file : List ℕ) (files : FilesTold) (source : SourceTold) (sink : SinkTold) → Means file disk (outside files source sink) (outside files source sink) (status_by (Err stop.NoMemory))
-means_nothing disk file files source sink = record {
+pub means_nothing : (disk : Disk) (words : ProgramWords) (files : FilesTold) (source : SourceTold) (sink : SinkTold) → Means words disk (outside files source sink) (outside files source sink) (status_by (Err stop.NoMemory))
+means_nothing disk words files source sink = record {
   front = [];
   reads = record { consumed = Consumes-nothing source.left; given = omega arith };
   lines = [];
@@ -105,31 +106,9 @@ means_nothing disk file files source sink = record {
   stopped = record {
     machine = empty_machine;
     any_refused = false;
-    stops = no_memory disk (load_line file ∷ []) (opening (outside files source sink)) (opening (outside files source sink)) (may_fail_same files) (Keeps-same sink.written);
+    stops = no_memory disk (load_line words.define words.file ∷ []) (opening (outside files source sink)) (opening (outside files source sink)) (may_fail_same files) (Keeps-same sink.written);
   };
 }
-
-pub empty_is_no_file : (word : List ℕ) → length word ≡ 0 → is_file_word word ≡ false
-empty_is_no_file [] h = refl
-empty_is_no_file (byte ∷ word) h = absurd (omega arith)
-
-and_false : (b : Bool) → (b && false) ≡ false
-and_false true = refl
-and_false false = refl
-
-and_true : (b : Bool) → (b && true) ≡ b
-and_true true = refl
-and_true false = refl
-
-pub dash_is_no_file : (word : List ℕ) → 0 < length word → get_or word 0 0 ≡ 45 → is_file_word word ≡ false
-dash_is_no_file [] some h = absurd (omega arith)
-dash_is_no_file (byte ∷ word) some h = rw h (and_false (list_all is_visible (45 ∷ word)))
-
-pub other_is_file : (word : List ℕ) → 0 < length word → (get_or word 0 0 ≡ 45 → ⊥) → is_file_word word ≡ list_all is_visible word
-other_is_file [] some h = absurd (omega arith)
-other_is_file (byte ∷ word) some h =
-    let no_dash : (byte == 45) ≡ false = ne_eqb byte 45 h in
-    rw no_dash (and_true (list_all is_visible (byte ∷ word)))
 
 -- a run that began has another status than `Words`
 pub status_at_is_read : (end : Ending) (any : Bool) → status_at end any ≡ Words → ⊥
@@ -141,3 +120,44 @@ status_at_is_read ending.TooMuch any h = cc
 pub stop_is_read : (why : Stop) → status_by (Err why) ≡ Words → ⊥
 stop_is_read stop.WriteFault h = cc
 stop_is_read stop.NoMemory h = cc
+
+-- two words or four are read
+pub other_words : {X : Type 0} (bytes : X → List ℕ) (words : List X) → (length words ≡ 2 → ⊥) → (length words ≡ 4 → ⊥) → words_read (map bytes words) ≡ None
+other_words bytes [] two four = refl
+other_words bytes (a ∷ []) two four = refl
+other_words bytes (a ∷ b ∷ []) two four = absurd (two refl)
+other_words bytes (a ∷ b ∷ c ∷ []) two four = refl
+other_words bytes (a ∷ b ∷ c ∷ d ∷ []) two four = absurd (four refl)
+other_words bytes (a ∷ b ∷ c ∷ d ∷ e ∷ rest) two four = refl
+
+-- what was read is a file and at most one definition, each of them a word
+pub record AreWords (said : ProgramWords) : Type 0 where
+  pub file : is_file_word said.file ≡ true
+  pub define : IfSome said.define (λ word. is_word word ≡ true)
+
+one_way : (p : Bool) (words said : ProgramWords) → (p ≡ true → AreWords words) → cond p (Some words) None ≡ Some said → AreWords said
+one_way true words said are h = let e : words ≡ said = cc in subst AreWords e (are refl)
+one_way false words said are h = cc
+
+two_ways : (p q : Bool) (words others said : ProgramWords) → (p ≡ true → AreWords words) → (q ≡ true → AreWords others) → cond p (Some words) (cond q (Some others) None) ≡ Some said → AreWords said
+two_ways true q words others said are so h = let e : words ≡ said = cc in subst AreWords e (are refl)
+two_ways false q words others said are so h = one_way q others said so h
+
+file_named : (flag word : List ℕ) → names_file flag word ≡ true → is_file_word word ≡ true
+file_named flag word h = second_so (bytes_eq flag (codes "-f")) (is_file_word word) h
+
+define_given : (flag word : List ℕ) → gives_define flag word ≡ true → is_word word ≡ true
+define_given flag word h = second_so (bytes_eq flag (codes "-D")) (is_word word) h
+
+pub read_are_words : (words : List (List ℕ)) (said : ProgramWords) → words_read words ≡ Some said → AreWords said
+read_are_words [] said h = cc
+read_are_words (a ∷ []) said h = cc
+read_are_words (flag ∷ word ∷ []) said h =
+    one_way (names_file flag word) (words_with None word) said (λ named. record { file = file_named flag word named; define = tt }) h
+read_are_words (a ∷ b ∷ c ∷ []) said h = cc
+read_are_words (first ∷ word ∷ second ∷ other ∷ []) said h =
+    two_ways (names_file first word && gives_define second other) (gives_define first word && names_file second other) (words_with (Some other) word) (words_with (Some word) other) said
+    (λ both. record { file = file_named first word (first_so (names_file first word) (gives_define second other) both); define = define_given second other (second_so (names_file first word) (gives_define second other) both) })
+    (λ both. record { file = file_named second other (second_so (gives_define first word) (names_file second other) both); define = define_given first word (first_so (gives_define first word) (names_file second other) both) })
+    h
+read_are_words (a ∷ b ∷ c ∷ d ∷ e ∷ rest) said h = cc

@@ -46,15 +46,19 @@ abbrev pub value_in : List ℕ → Option (List ℕ)
 value_in [] = None
 value_in (byte ∷ bytes) = if byte == 61 then Some bytes else value_in bytes
 
--- 1 to 63 letters, digits and `_`, and at most 8,192 bytes
+-- a macro's value may have this many bytes
+abbrev pub most_value : ℕ
+most_value = 8192
+
+-- the name is 1 to 63 letters, digits and `_`, and the value isn't too long
 abbrev pub is_definition : List ℕ → List ℕ → Bool
-is_definition name value = is_macro_name name && nat_le (length value) 8192
+is_definition name value = is_macro_name name && nat_le (length value) most_value
 
 abbrev pub defined : List ℕ → Option (List ℕ) → Option Define
 defined name None = None
 defined name (Some value) = if is_definition name value then Some (record { name = name; value = value }) else None
 
--- NAME=VALUE
+-- the macro of a word NAME=VALUE; None where the word has no such form
 abbrev pub define_of : List ℕ → Option Define
 define_of word = defined (name_in word) (value_in word)
 
@@ -79,6 +83,16 @@ abbrev pub load_with : Option (List Define × List ℕ) → Command
 load_with None = None_of_these
 load_with (Some options) =
     if nat_le (length options.0) 32 && are_different options.0 then Load options.0 options.1 else None_of_these
+
+-- a load of this file with one definition, where there is one
+abbrev pub load_with_one : Option Define → List ℕ → Command
+load_with_one None file = None_of_these
+load_with_one (Some define) file = Load (define ∷ []) file
+
+-- a load of this file, with the definition of this word where one is given
+abbrev pub command_with : Option (List ℕ) → List ℕ → Command
+command_with None file = Load [] file
+command_with (Some word) file = load_with_one (define_of word) file
 
 abbrev pub load_of : List (List ℕ) → Command
 load_of words = load_with (options_of words)

@@ -22,21 +22,47 @@ use Rattle.pfctl.specs.Step.{step}
 abbrev pub is_visible : ℕ → Bool
 is_visible byte = nat_le 33 byte && nat_le byte 126
 
--- one or more visible bytes that don't begin with `-`
+-- one or more visible bytes
+abbrev pub is_word : List ℕ → Bool
+is_word word = not (is_nothing word) && list_all is_visible word
+
+-- a word that doesn't begin with `-`
 abbrev pub is_file_word : List ℕ → Bool
-is_file_word word = (not (is_nothing word) && list_all is_visible word) && not (begins_with_dash word)
+is_file_word word = is_word word && not (begins_with_dash word)
 
--- The words of the program are `-f FILE`; None where they aren't
-abbrev pub file_named : List (List ℕ) → Option (List ℕ)
-file_named (flag ∷ file ∷ []) = if bytes_eq flag (codes "-f") && is_file_word file then Some file else None
-file_named words = None
+-- `-f FILE`
+abbrev pub names_file : List ℕ → List ℕ → Bool
+names_file flag word = bytes_eq flag (codes "-f") && is_file_word word
 
-abbrev pub load_line : List ℕ → List ℕ
-load_line file = codes "load " ++ file
+-- `-D WORD`
+abbrev pub gives_define : List ℕ → List ℕ → Bool
+gives_define flag word = bytes_eq flag (codes "-D") && is_word word
+
+-- What the words of the program say: the file, and the word of a definition where one is given
+pub record ProgramWords : Type 0 where
+  pub define : Option (List ℕ)
+  pub file : List ℕ
+
+abbrev pub words_with : Option (List ℕ) → List ℕ → ProgramWords
+words_with define file = record { define = define; file = file }
+
+-- The words of the program are `-f FILE` and at most one `-D WORD`, in either order; None where they aren't
+abbrev pub words_read : List (List ℕ) → Option ProgramWords
+words_read (flag ∷ word ∷ []) = if names_file flag word then Some (words_with None word) else None
+words_read (first ∷ word ∷ second ∷ other ∷ []) =
+    if names_file first word && gives_define second other then Some (words_with (Some other) word)
+    else if gives_define first word && names_file second other then Some (words_with (Some word) other)
+    else None
+words_read words = None
+
+-- the line `load FILE`, or `load -D WORD FILE`
+abbrev pub load_line : Option (List ℕ) → List ℕ → List ℕ
+load_line None file = codes "load " ++ file
+load_line (Some word) file = codes "load -D " ++ word ++ codes " " ++ file
 
 -- what the program executes: the load, and then the tests
-abbrev pub program_lines : List ℕ → List (List ℕ) → List (List ℕ)
-program_lines file lines = load_line file ∷ test_lines lines
+abbrev pub program_lines : ProgramWords → List (List ℕ) → List (List ℕ)
+program_lines words lines = load_line words.define words.file ∷ test_lines lines
 
 -- What the objects of the outside tell at one moment
 pub record Outside : Type 0 where
@@ -66,46 +92,46 @@ pub record Stopped (disk : Disk) (cause : Cause) (lines : List (List ℕ)) (befo
   pub stops : Stops step disk cause lines (opening before) (closing machine any_refused after)
 
 -- The input was read to its end, within its limit, and every line of it was executed.
-pub record Finished (file : List ℕ) (disk : Disk) (any_refused : Bool) (before after : Outside) : Type 0 where
+pub record Finished (words : ProgramWords) (disk : Disk) (any_refused : Bool) (before after : Outside) : Type 0 where
   pub front : List ℕ
   pub reads : Reads before.source after.source front
   pub ended : IsAtEnd after.source.left
   pub within : length front ≤ most_input
-  pub ran : Ran disk (program_lines file (lines_of front)) any_refused before after
+  pub ran : Ran disk (program_lines words (lines_of front)) any_refused before after
 
 -- A read failed: the whole lines read before it were executed.
-pub record ReadFailed (file : List ℕ) (disk : Disk) (before after : Outside) : Type 0 where
+pub record ReadFailed (words : ProgramWords) (disk : Disk) (before after : Outside) : Type 0 where
   pub front : List ℕ
   pub reads : Reads before.source after.source front
   pub within : length front ≤ most_input
   pub any_refused : Bool
-  pub ran : Ran disk (program_lines file (whole_lines front)) any_refused before after
+  pub ran : Ran disk (program_lines words (whole_lines front)) any_refused before after
 
 -- More was read than the limit: the lines that end within the limit were executed.
-pub record ReadTooMuch (file : List ℕ) (disk : Disk) (before after : Outside) : Type 0 where
+pub record ReadTooMuch (words : ProgramWords) (disk : Disk) (before after : Outside) : Type 0 where
   pub front : List ℕ
   pub reads : Reads before.source after.source front
   pub over : most_input < length front
   pub any_refused : Bool
-  pub ran : Ran disk (program_lines file (whole_lines (take most_input front))) any_refused before after
+  pub ran : Ran disk (program_lines words (whole_lines (take most_input front))) any_refused before after
 
 -- The run stopped before its end, at a failed write or for want of memory.
-pub record Broke (file : List ℕ) (disk : Disk) (cause : Cause) (before after : Outside) : Type 0 where
+pub record Broke (words : ProgramWords) (disk : Disk) (cause : Cause) (before after : Outside) : Type 0 where
   pub front : List ℕ
   pub reads : Reads before.source after.source front
   pub lines : List (List ℕ)
   pub are : LinesRead after.source front lines
-  pub stopped : Stopped disk cause (program_lines file lines) before after
+  pub stopped : Stopped disk cause (program_lines words lines) before after
 
 -- what each status means
-abbrev pub Means : List ℕ → Disk → Outside → Outside → Status → Type 0
-Means file disk before after status.Done = Finished file disk false before after
-Means file disk before after status.Refused = Finished file disk true before after
-Means file disk before after status.Words = ⊥
-Means file disk before after status.ReadFault = ReadFailed file disk before after
-Means file disk before after status.WriteFault = Broke file disk Write_failed before after
-Means file disk before after status.NoMemory = Broke file disk Out_of_memory before after
-Means file disk before after status.TooMuchInput = ReadTooMuch file disk before after
+abbrev pub Means : ProgramWords → Disk → Outside → Outside → Status → Type 0
+Means words disk before after status.Done = Finished words disk false before after
+Means words disk before after status.Refused = Finished words disk true before after
+Means words disk before after status.Words = ⊥
+Means words disk before after status.ReadFault = ReadFailed words disk before after
+Means words disk before after status.WriteFault = Broke words disk Write_failed before after
+Means words disk before after status.NoMemory = Broke words disk Out_of_memory before after
+Means words disk before after status.TooMuchInput = ReadTooMuch words disk before after
 
 -- why a status comes, by counts and numbers alone
 abbrev pub HasCause : Outside → Outside → Status → Type 0

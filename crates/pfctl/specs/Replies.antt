@@ -1,8 +1,8 @@
 -- The text of the replies.
 use Rattle.std.specs.Prelude.{ℕ, List, ◌++◌, codes}
 use Rattle.std.specs.Fmt.{decimal}
-use Rattle.pf_rule.specs.declared.record.Field.{Field}
-use Rattle.pf_rule.specs.declared.record.Field.TheVariants as field
+use Rattle.pf_record.specs.FieldName.{field_name}
+use Rattle.pf_record.specs.declared.field.Field.{Field}
 
 -- a load was accepted: how many rulesets, rules and tables it has
 abbrev pub loaded_text : ℕ → List ℕ
@@ -20,11 +20,6 @@ load_fault_text kind file line = codes "refused 2 LoadFault " ++ kind ++ codes "
 abbrev pub cannot_read_text : List ℕ → List ℕ
 cannot_read_text file = codes "refused 3 CannotRead " ++ file
 
-abbrev pub field_text : Field → List ℕ
-field_text field.Direction = codes "direction"
-field_text field.Interface = codes "interface"
-field_text field.Protocol = codes "protocol"
-
--- the first word of the record that is outside its form
+-- the first field of the record that is missing or outside its form
 abbrev pub bad_packet_text : Field → List ℕ
-bad_packet_text name = codes "refused 11 BadPacket " ++ field_text name
+bad_packet_text field = codes "refused 11 BadPacket " ++ field_name field

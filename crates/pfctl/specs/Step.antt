@@ -1,15 +1,17 @@
 -- One step of the plain machine: what a line does (pfctl(8)).
-use Rattle.std.specs.Prelude.{◌≡◌, ℕ, true, false, List, [], ◌∷◌, length, codes, Option, Some, None, Result, Ok, Err, nat_le, if◌then◌else◌}
-use Rattle.pf_rule.specs.declared.rule.Rule.{Rule}
-use Rattle.pf_rule.specs.declared.packet.Packet.{Packet}
-use Rattle.pf_rule.specs.declared.record.PacketFault.{PacketFault}
+use Rattle.std.specs.Prelude.{◌≡◌, ℕ, true, false, List, [], ◌∷◌, length, Option, Some, None, Result, Ok, Err}
+use Rattle.pf_token.specs.declared.macros.Define.{Define}
 use Rattle.pf_rule.specs.Answer.{answer_of}
-use Rattle.pf_rule.specs.AnswerText.{answer_text}
-use Rattle.pf_rule.specs.Record.{packet_of}
-use Rattle.pf_load.specs.Load.{rules_of}
+use Rattle.pf_rule.specs.declared.packet.Packet.{Packet}
+use Rattle.pf_record.specs.AnswerText.{answer_text}
+use Rattle.pf_record.specs.Record.{IsReadAs}
+use Rattle.pf_record.specs.declared.field.PacketFault.{PacketFault}
+use Rattle.pf_load.specs.Load.{Loads, Outcome}
+use Rattle.pf_load.specs.declared.loading.LoadFault.TheVariants.{File, CannotRead, NoMemory}
 use Rattle.pf_runs.specs.Runs.{Disk, Step, Stepped}
 use Rattle.pfctl.specs.Command.{Command, Load, Test, None_of_these, command_of}
-use Rattle.pfctl.specs.Machine.{Machine}
+use Rattle.pfctl.specs.Kinds.{kind_text}
+use Rattle.pfctl.specs.Machine.{Machine, no_tables_or_facts}
 use Rattle.pfctl.specs.Replies.{loaded_text, bad_command_text, load_fault_text, cannot_read_text, bad_packet_text}
 
 -- the line was done, with this reply
@@ -24,22 +26,23 @@ refused machine reply = record { machine = machine; reply = reply ∷ []; refuse
 abbrev pub cannot_read : Machine → List ℕ → Stepped Machine
 cannot_read machine file = record { machine = machine; reply = cannot_read_text file ∷ []; refused = true; unread = file ∷ [] }
 
--- what a load that came to this does: its rules replace those in force, or the first fault refuses it
-abbrev pub after_load : Machine → Outcome → Stepped Machine
-after_load machine (Ok rules) = done (record { rules = rules }) (loaded_text (length rules))
-after_load machine (Err (File kind place name)) = refused machine (load_fault_text (kind_text kind) name place.line)
-after_load machine (Err (CannotRead name)) = cannot_read machine name
-after_load machine (Err NoMemory) = refused machine []
+-- What a load that came to this does: its rules replace those in force, or its first fault refuses it. Want of memory
+-- is nothing that a load over a disk comes to.
+abbrev pub after_load : Machine → Outcome → Option (Stepped Machine)
+after_load machine (Ok rules) = Some (done (record { rules = rules }) (loaded_text (length rules)))
+after_load machine (Err (File kind place name)) = Some (refused machine (load_fault_text (kind_text kind) name place.line))
+after_load machine (Err (CannotRead name)) = Some (cannot_read machine name)
+after_load machine (Err NoMemory) = None
 
 -- `load OPTS FILE`: by what the load comes to over the disk
 pub record LoadDoes (disk : Disk) (machine : Machine) (defines : List Define) (file : List ℕ) (does : Stepped Machine) : Type 0 where
   pub outcome : Outcome
   pub loads : Loads disk defines file outcome
-  pub is : does ≡ after_load machine outcome
+  pub is : after_load machine outcome ≡ Some does
 
 -- the packet's answer is that of the last-match walk over the rules in force
 abbrev pub test_packet : Machine → Result Packet PacketFault → Stepped Machine
-test_packet machine (Ok packet) = done machine (answer_text (answer_of machine.rules packet))
+test_packet machine (Ok packet) = done machine (answer_text (answer_of no_tables_or_facts machine.rules packet))
 test_packet machine (Err fault) = refused machine (bad_packet_text fault.0)
 
 -- `test RECORD`: by what the record is read as

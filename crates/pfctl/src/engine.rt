@@ -1,27 +1,28 @@
 //! The machine in memory, and its step for each kind of line.
-ghost use Rattle.std.specs.Prelude.{◌≡◌, ◌≤◌, ℕ, List, true, false, length, IfOk, OnErr};
+ghost use Rattle.std.specs.Prelude.{◌≡◌, ◌∷◌, ℕ, List, [], true, false, IfOk, IfSome, OnErr, option_copied};
 ghost use Rattle.std.specs.List.{list_all};
 ghost use Rattle.pf_source.specs.Told.{Told, file_of};
 ghost use Rattle.pf_runs.specs.Runs.{Answers, Disk, Stepped};
 ghost use Rattle.pfctl.specs.Machine.{Machine as PlainMachine};
 ghost use Rattle.pfctl.specs.Step.{step};
-ghost use Rattle.pfctl.specs.Command.{behind_blanks, is_plain};
+ghost use Rattle.pfctl.specs.Command.{Load, Test, behind_blanks, command_of, is_plain};
 
+use crate::definition::read_definition;
+use crate::facts::NoFacts;
 use crate::replies::{
     reply_answer, reply_bad_command, reply_bad_packet, reply_cannot_read, reply_load_fault,
     reply_loaded,
 };
 use pf_base::text::is_blank_byte;
-use pf_base::{FaultKind, List, NoMemory, Steps, Text};
-use pf_load::{RulesFault, read_rules};
-use pf_rule::{Rule, evaluate, read_packet};
+use pf_base::{List, NoMemory, Steps, Text};
+use pf_load::{LoadFault, a_load_comes_to_one_thing, an_absent_file_is_no_outage, load};
+use pf_record::{a_record_is_read_one_way, read_packet};
+use pf_rule::{NoTables, Rule, evaluate};
 use pf_runs::Machine;
-use pf_source::{Files, FilesFault};
+use pf_source::Files;
+use pf_token::Define;
 use std::alloc::Global;
 use std::marker::Model;
-
-/// A file of rules may have this many bytes.
-const MOST_FILE: u64 = 4_194_304;
 
 /// What came of a line.
 #[derive(Clone, Copy, Debug, PartialEq, Eq)]
@@ -98,14 +99,16 @@ impl Machine for Engine {
 pub fn a_line_does_one_thing()
     ensures { (disk : Disk) (machine : PlainMachine) (line : List ℕ) (a b : Stepped PlainMachine) →
         step disk machine line a → step disk machine line b → a ≡ b }
-{}
+{
+    a_load_comes_to_one_thing();
+    a_record_is_read_one_way();
+}
 
 impl Engine {
-    ghost use Rattle.pfctl.specs.Doing.{Does, DoesAlone, MayFail, is_refused};
+    ghost use Rattle.pfctl.specs.Doing.{DoesAlone, MayFail, is_refused};
     ghost use Rattle.pfctl.specs.Machine.{empty_machine};
     ghost use Rattle.pfctl.specs.Input.{test_line};
-    ghost use Rattle.pfctl.specs.Program.{is_file_word, load_line};
-    ghost use Rattle.pfctl.specs.Step.{load_text, most_file, step_test};
+    ghost use Rattle.pfctl.specs.Program.{is_file_word, is_word, load_line};
 
     /// The empty machine.
     pub fn new(alloc: Global) -> Engine
@@ -116,59 +119,66 @@ impl Engine {
         }
     }
 
-    // The rules of a text replace those in force, or its fault refuses the load.
-    fn load_rules(
+    // What a `load` line with these definitions and this file does.
+    fn load_with<F: Files>(
         &mut self,
         alloc: Global,
-        file: &[u8],
-        text: &[u8],
+        files: &mut F,
+        defines: &[Define],
+        file: &Text,
         reply: &mut Vec<u8>,
     ) -> Result<Outcome, NoMemory>
-        requires { length text.now ≤ most_file }
-        ensures does { IfOk result (λ outcome. Does (load_text self.old file.now text.now) self.new reply.new.items (is_refused outcome)) }
+        ensures answers { IfOk result (λ outcome. Told (F.tells files.old).held (λ held. (line : List ℕ) → command_of line ≡ Load defines.now file.now →
+            Answers step (file_of held) line self.old (F.tells files.old) self.new (F.tells files.new) reply.new.items (is_refused outcome))) }
+        ensures err { OnErr result (MayFail (F.tells files.old) (F.tells files.new)) }
         ensures unchanged { OnErr result (self.new ≡ self.old) }
         ensures refused { result ≡ Ok Outcome.Refused → self.new ≡ self.old }
     {
-        match read_rules(alloc, text) {
+        an_absent_file_is_no_outage();
+        match load(alloc, files, defines, file) {
             Ok(rules) => {
                 reply_loaded(alloc, reply, rules.items().len())?;
                 self.rules = rules;
                 Ok(Outcome::Done)
             }
-            Err(RulesFault::At { kind, line }) => {
-                reply_load_fault(alloc, reply, kind, file, line)?;
+            Err(LoadFault::File { kind, place, name }) => {
+                reply_load_fault(alloc, reply, kind, name.items(), place.line)?;
                 Ok(Outcome::Refused)
             }
-            Err(RulesFault::NoMemory) => Err(NoMemory),
+            Err(LoadFault::CannotRead { name }) => {
+                reply_cannot_read(reply, name.items())?;
+                Ok(Outcome::Refused)
+            }
+            Err(LoadFault::NoMemory) => Err(NoMemory),
         }
     }
 
-    /// The line `load FILE`. Its reply replaces what `reply` held.
+    /// The line `load FILE`, or `load -D WORD FILE` where a word is given. Its reply replaces what `reply` held.
     pub fn load<F: Files>(
         &mut self,
         alloc: Global,
         files: &mut F,
+        define: Option<&[u8]>,
         file: &Text,
         reply: &mut Vec<u8>,
     ) -> Result<Outcome, NoMemory>
-        requires { is_file_word file.now ≡ true }
+        requires file { is_file_word file.now ≡ true }
+        requires define { IfSome (option_copied define) (λ word. is_word word ≡ true) }
         ensures answers { IfOk result (λ outcome. Told (F.tells files.old).held (λ held.
-            Answers step (file_of held) (load_line file.now) self.old (F.tells files.old) self.new (F.tells files.new) reply.new.items (is_refused outcome))) }
+            Answers step (file_of held) (load_line (option_copied define.entry) file.now) self.old (F.tells files.old) self.new (F.tells files.new) reply.new.items (is_refused outcome))) }
         ensures err { OnErr result (MayFail (F.tells files.old) (F.tells files.new)) }
         ensures unchanged { OnErr result (self.new ≡ self.old) }
         ensures refused { result ≡ Ok Outcome.Refused → self.new ≡ self.old }
     {
-        match files.read(alloc, file, MOST_FILE) {
-            Ok(text) => self.load_rules(alloc, file.items(), text.items(), reply),
-            Err(FilesFault::Failed) => {
-                reply_cannot_read(reply, file.items())?;
+        let Some(word) = define else {
+            return self.load_with(alloc, files, &[], file, reply);
+        };
+        match read_definition(alloc, word)? {
+            Some(define) => self.load_with(alloc, files, &[define], file, reply),
+            None => {
+                reply_bad_command(reply)?;
                 Ok(Outcome::Refused)
             }
-            Err(FilesFault::TooLarge { .. }) => {
-                reply_load_fault(alloc, reply, FaultKind::TooLarge, file.items(), 0)?;
-                Ok(Outcome::Refused)
-            }
-            Err(FilesFault::NoMemory) => Err(NoMemory),
         }
     }
 
@@ -176,22 +186,22 @@ impl Engine {
     pub fn test(&self, text: &[u8], reply: &mut Vec<u8>) -> Result<Outcome, NoMemory>
         ensures { IfOk result (λ outcome. (disk : Disk) → DoesAlone disk self.now (test_line text.now) self.now reply.new.items (is_refused outcome)) }
     {
-        let record = skip_blanks(text);
-        if !is_plain_text(text) || record.is_empty() {
+        let rest = skip_blanks(text);
+        if !is_plain_text(text) || rest.is_empty() {
             reply_bad_command(reply)?;
             return Ok(Outcome::Refused);
         }
-        self.answer(record, reply)
+        self.answer(rest, reply)
     }
 
-    // The answer to the packet of a record.
-    #[tactic(auto, unfolding(crate::specs::Step::step_test))]
+    // What a `test` line with this record does.
     fn answer(&self, text: &[u8], reply: &mut Vec<u8>) -> Result<Outcome, NoMemory>
-        ensures { IfOk result (λ outcome. Does (step_test self.now text.now) self.now reply.new.items (is_refused outcome)) }
+        ensures { IfOk result (λ outcome. (disk : Disk) (line : List ℕ) → command_of line ≡ Test text.now → DoesAlone disk self.now line self.now reply.new.items (is_refused outcome)) }
     {
         match read_packet(text) {
             Ok(packet) => {
-                let answer = evaluate(self.rules.items(), &packet, &mut Steps::start());
+                let rules = self.rules.items();
+                let answer = evaluate(rules, &packet, &NoTables, &NoFacts, &mut Steps::start());
                 reply_answer(reply, &answer)?;
                 Ok(Outcome::Done)
             }

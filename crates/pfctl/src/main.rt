@@ -3,7 +3,9 @@
 //! files, input and output, and hands on the status.
 #![tactic(auto)]
 
+mod definition;
 mod engine;
+mod facts;
 mod kinds;
 mod program;
 mod replies;

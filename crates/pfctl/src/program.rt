@@ -1,8 +1,8 @@
 //! The top call: the words, the run and its status.
-ghost use Rattle.std.specs.Prelude.{◌≡◌, ◌≢◌, ◌↔◌, true, map, string_bytes, IfSome, IsNone, MatchOption, option_copied};
+ghost use Rattle.std.specs.Prelude.{[], ◌∷◌, ◌≡◌, ◌≢◌, ◌↔◌, true, map, string_bytes, IfSome, IfNone, IsNone, None, Some, option_copied};
 ghost use Rattle.std.specs.List.{list_all};
 ghost use Rattle.pf_source.specs.Told.{Told, file_of};
-ghost use Rattle.pfctl.specs.Program.{HasCause, Means, file_named, is_file_word, is_visible, outside, status_at, status_by};
+ghost use Rattle.pfctl.specs.Program.{HasCause, Means, gives_define, is_file_word, is_visible, is_word, names_file, outside, status_at, status_by, words_read, words_with};
 
 use crate::session::{Ending, Session, Stop};
 use pf_base::List;
@@ -46,34 +46,103 @@ fn is_visible_byte(byte: u8) -> bool
     (33..=126).contains(&byte)
 }
 
-// Has the word visible bytes alone?
-fn is_visible_word(word: &[u8]) -> bool
-    ensures { result ≡ list_all is_visible word.now }
+// Has the text visible bytes alone?
+fn is_visible_text(text: &[u8]) -> bool
+    ensures { result ≡ list_all is_visible text.now }
 {
-    word.iter().all(|byte| is_visible_byte(*byte))
+    text.iter().all(|byte| is_visible_byte(*byte))
 }
 
-// Is the word the name of a file: one or more visible bytes, of which the first isn't `-`?
-fn is_file(word: &[u8]) -> bool
-    ensures { result ≡ is_file_word word.now }
+// Is it a word: one or more visible bytes?
+fn is_word(text: &[u8]) -> bool
+    ensures { result ≡ is_word text.now }
 {
-    if word.is_empty() || word[0] == b'-' {
-        return false;
+    !text.is_empty() && is_visible_text(text)
+}
+
+// Is it the name of a file: a word that doesn't begin with `-`?
+fn is_file(text: &[u8]) -> bool
+    ensures { result ≡ is_file_word text.now }
+{
+    is_word(text) && text[0] != b'-'
+}
+
+// Are these `-f FILE`?
+fn names_file(flag: &str, word: &str) -> bool
+    ensures { result ≡ names_file flag.now word.now }
+{
+    flag == "-f" && is_file(word.as_bytes())
+}
+
+// Are these `-D WORD`?
+fn gives_define(flag: &str, word: &str) -> bool
+    ensures { result ≡ gives_define flag.now word.now }
+{
+    flag == "-D" && is_word(word.as_bytes())
+}
+
+/// What the words of the program say.
+#[derive(Clone, Copy, Debug)]
+struct ProgramWords<'a> {
+    /// The word NAME=VALUE of a definition.
+    define: Option<&'a [u8]>,
+    /// The file of rules.
+    file: &'a [u8],
+}
+
+// Reads the words `-f FILE`.
+fn read_file<'a>(flag: &str, word: &'a str) -> Option<ProgramWords<'a>>
+    ensures read { IfSome result (λ said. words_read (flag.now ∷ word.now ∷ []) ≡ Some (words_with (option_copied said.define) said.file.now)) }
+    ensures none { IfNone result (words_read (flag.now ∷ word.now ∷ []) ≡ None) }
+{
+    if !names_file(flag, word) {
+        return None;
     }
-    is_visible_word(word)
+    Some(ProgramWords {
+        define: None,
+        file: word.as_bytes(),
+    })
 }
 
-// The file of the words `-f FILE`; None where the words aren't these.
-fn file_of_words(words: &[String]) -> Option<&[u8]>
-    ensures { option_copied result ≡ file_named (map string_bytes words.now) }
+// Reads the words `-f FILE` and `-D WORD`, in either order.
+fn read_both<'a>(
+    first: &str,
+    word: &'a str,
+    second: &str,
+    other: &'a str,
+) -> Option<ProgramWords<'a>>
+    ensures read { IfSome result (λ said. words_read (first.now ∷ word.now ∷ second.now ∷ other.now ∷ []) ≡ Some (words_with (option_copied said.define) said.file.now)) }
+    ensures none { IfNone result (words_read (first.now ∷ word.now ∷ second.now ∷ other.now ∷ []) ≡ None) }
 {
-    match words {
-        [flag, file] if flag.as_str() == "-f" && is_file(file.as_bytes()) => Some(file.as_bytes()),
+    if names_file(first, word) && gives_define(second, other) {
+        return Some(ProgramWords {
+            define: Some(other.as_bytes()),
+            file: word.as_bytes(),
+        });
+    }
+    if gives_define(first, word) && names_file(second, other) {
+        return Some(ProgramWords {
+            define: Some(word.as_bytes()),
+            file: other.as_bytes(),
+        });
+    }
+    None
+}
+
+// Reads the words `-f FILE` and at most one `-D WORD`, in either order; None where the words aren't these.
+#[tactic(auto, using(crate::proofs::Programs::other_words))]
+fn read_words(words: &[String]) -> Option<ProgramWords<'_>>
+    ensures read { IfSome result (λ said. words_read (map string_bytes words.now) ≡ Some (words_with (option_copied said.define) said.file.now)) }
+    ensures none { IfNone result (words_read (map string_bytes words.now) ≡ None) }
+{
+    match words.len() {
+        2 => read_file(&words[0], &words[1]),
+        4 => read_both(&words[0], &words[1], &words[2], &words[3]),
         _ => None,
     }
 }
 
-/// Does all that the program does: reads the words `-f FILE`, loads the file, and answers each line of the input as
+/// Does all that the program does: reads the words `-f FILE` and perhaps `-D NAME=VALUE`, loads the file, and answers each line of the input as
 /// the record of a packet. What it writes is the output of the plain machine, by its status (pfctl(8)).
 pub fn run<F: Files, S: Source, W: Sink>(
     alloc: Global,
@@ -83,20 +152,20 @@ pub fn run<F: Files, S: Source, W: Sink>(
     out: &mut W,
 ) -> Status
     // What each status means, where the files tell what they hold.
-    ensures means { IfSome (file_named (map string_bytes words.now)) (λ file. Told (F.tells files.old).held (λ held.
-        Means file (file_of held)
+    ensures means { IfSome (words_read (map string_bytes words.now)) (λ said. Told (F.tells files.old).held (λ held.
+        Means said (file_of held)
         (outside (F.tells files.old) (S.tells input.old) (W.tells out.old))
         (outside (F.tells files.new) (S.tells input.new) (W.tells out.new)) result)) }
     // The words alone decide whether they are read; where they aren't, nothing is read or written.
-    ensures words { (result ≡ Status.Words) ↔ IsNone (file_named (map string_bytes words.now)) }
+    ensures words { (result ≡ Status.Words) ↔ IsNone (words_read (map string_bytes words.now)) }
     // Why a status comes, also where nothing is told.
     ensures cause { HasCause
         (outside (F.tells files.old) (S.tells input.old) (W.tells out.old))
         (outside (F.tells files.new) (S.tells input.new) (W.tells out.new)) result }
 {
-    match file_of_words(words) {
+    match read_words(words) {
         None => Status::Words,
-        Some(file) => match execute(alloc, file, files, input, out) {
+        Some(said) => match execute(alloc, said.define, said.file, files, input, out) {
             Ok(status) => status,
             Err(Stop::WriteFault) => Status::WriteFault,
             Err(Stop::NoMemory) => Status::NoMemory,
@@ -113,11 +182,11 @@ pub fn run_surely(
     input: &mut SureSource,
     out: &mut SureSink,
 ) -> Status
-    ensures means { IfSome (file_named (map string_bytes words.now)) (λ file. Told (⟦<SureFiles as Files>⟧.tells files.old).held (λ held.
-        Means file (file_of held)
+    ensures means { IfSome (words_read (map string_bytes words.now)) (λ said. Told (⟦<SureFiles as Files>⟧.tells files.old).held (λ held.
+        Means said (file_of held)
         (outside (⟦<SureFiles as Files>⟧.tells files.old) (⟦<SureSource as Source>⟧.tells input.old) (⟦<SureSink as Sink>⟧.tells out.old))
         (outside (⟦<SureFiles as Files>⟧.tells files.new) (⟦<SureSource as Source>⟧.tells input.new) (⟦<SureSink as Sink>⟧.tells out.new)) result)) }
-    ensures words { (result ≡ Status.Words) ↔ IsNone (file_named (map string_bytes words.now)) }
+    ensures words { (result ≡ Status.Words) ↔ IsNone (words_read (map string_bytes words.now)) }
     ensures reads { result ≢ Status.ReadFault }
     ensures writes { result ≢ Status.WriteFault }
 {
@@ -127,13 +196,15 @@ pub fn run_surely(
 // The load, and then the input.
 fn execute<F: Files, S: Source, W: Sink>(
     alloc: Global,
+    define: Option<&[u8]>,
     file: &[u8],
     files: &mut F,
     input: &mut S,
     out: &mut W,
 ) -> Result<Status, Stop>
-    requires { is_file_word file.now ≡ true }
-    ensures means { Told (F.tells files.old).held (λ held. Means file.now (file_of held)
+    requires file { is_file_word file.now ≡ true }
+    requires define { IfSome (option_copied define) (λ word. is_word word ≡ true) }
+    ensures means { Told (F.tells files.old).held (λ held. Means (words_with (option_copied define.entry) file.now) (file_of held)
         (outside (F.tells files.old) (S.tells input.old) (W.tells out.old))
         (outside (F.tells files.new) (S.tells input.new) (W.tells out.new)) (status_by result)) }
     ensures read { status_by result ≢ Status.Words }
@@ -143,7 +214,7 @@ fn execute<F: Files, S: Source, W: Sink>(
 {
     let name = List::of(Vec::from_slice(alloc, file)?);
     let mut session = Session::new(alloc);
-    session.load(alloc, files, out, &name)?;
+    session.load(alloc, files, out, define, &name)?;
     let ending = session.read_input(alloc, input, out)?;
     Ok(status_of(ending, session.is_refused()))
 }

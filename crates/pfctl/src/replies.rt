@@ -1,13 +1,15 @@
 //! The text of the replies. Each call replaces what the reply's buffer held.
-ghost use Rattle.std.specs.Prelude.{◌≡◌, ◌++◌, [], ◌∷◌, codes, IfOk, OnOk};
-ghost use Rattle.pf_rule.specs.AnswerText.{answer_text};
+ghost use Rattle.std.specs.Prelude.{◌≡◌, ◌++◌, [], ◌∷◌, codes, IsTrue, OnOk};
+ghost use Rattle.pf_record.specs.AnswerText.{answer_text};
+ghost use Rattle.pf_rule.specs.Effect.{is_deciding};
 ghost use Rattle.pf_runs.specs.Runs.{reply_text};
-ghost use Rattle.pfctl.specs.Replies.{bad_command_text, bad_packet_text, cannot_read_text, field_text, load_fault_text, loaded_text};
+ghost use Rattle.pfctl.specs.Replies.{bad_command_text, bad_packet_text, cannot_read_text, load_fault_text, loaded_text};
 ghost use Rattle.pfctl.specs.Kinds.{kind_text};
 
 use crate::kinds::put_kind;
 use pf_base::{FaultKind, NoMemory};
-use pf_rule::{Answer, Field, put_answer};
+use pf_record::{Field, put_answer};
+use pf_rule::Answer;
 use std::alloc::Global;
 
 /// An accepted load with this many rules.
@@ -62,30 +64,20 @@ pub fn reply_cannot_read(reply: &mut Vec<u8>, file: &[u8]) -> Result<(), NoMemor
     Ok(())
 }
 
-// The name of a record's field.
-fn field_name(field: Field) -> &'static [u8]
-    ensures { result.now ≡ field_text field }
-{
-    match field {
-        Field::Direction => b"direction",
-        Field::Interface => b"interface",
-        Field::Protocol => b"protocol",
-    }
-}
-
-/// A record that is outside its form at this field.
+/// A record of which this field is missing or outside its form.
 pub fn reply_bad_packet(reply: &mut Vec<u8>, field: Field) -> Result<(), NoMemory>
     ensures { OnOk result (reply.new.items ≡ reply_text (bad_packet_text field ∷ [])) }
 {
     reply.clear();
     reply.extend_from_slice(b"refused 11 BadPacket ")?;
-    reply.extend_from_slice(field_name(field))?;
+    reply.extend_from_slice(field.name())?;
     reply.extend_from_slice(b"\n")?;
     Ok(())
 }
 
 /// The answer to a packet.
 pub fn reply_answer(reply: &mut Vec<u8>, answer: &Answer) -> Result<(), NoMemory>
+    requires { IsTrue (is_deciding answer.now.decision.action) }
     ensures { OnOk result (reply.new.items ≡ reply_text (answer_text answer.now ∷ [])) }
 {
     reply.clear();

@@ -1,5 +1,5 @@
 //! A run: the machine, the lines that it has executed, and what it has written.
-ghost use Rattle.std.specs.Prelude.{◌≡◌, ◌∷◌, ◌++◌, [], true, false, OnOk, IfErr};
+ghost use Rattle.std.specs.Prelude.{◌≡◌, ◌∷◌, ◌++◌, [], true, false, OnOk, IfErr, IfSome, option_copied};
 ghost use Rattle.pf_base.specs.Text.{IsOneLine, whole_lines, unfinished};
 ghost use Rattle.pf_source.specs.Told.{FilesTold, Told, file_of};
 ghost use Rattle.pf_runs.specs.Runs.{Disk};
@@ -7,7 +7,7 @@ ghost use Rattle.pfctl.specs.declared.session.Stop.TheVariants.{NoMemory as stop
 ghost use Rattle.pfctl.specs.Doing.{EndsInput, FailsByCount, GivesWithin, Performs, RunsOver, Sends, StopsOver, world};
 ghost use Rattle.pfctl.specs.Machine.{empty_machine};
 ghost use Rattle.pfctl.specs.Input.{says_something, test_lines};
-ghost use Rattle.pfctl.specs.Program.{is_file_word, load_line};
+ghost use Rattle.pfctl.specs.Program.{is_file_word, is_word, load_line};
 
 use crate::engine::Engine;
 use pf_base::text::split_line;
@@ -107,20 +107,24 @@ impl Session {
         self.refused
     }
 
-    /// Executes the line `load FILE`.
+    /// Executes the line `load FILE`, or `load -D WORD FILE`.
     pub fn load<F: Files, W: Sink>(
         &mut self,
         alloc: Global,
         files: &mut F,
         out: &mut W,
+        define: Option<&[u8]>,
         file: &Text,
     ) -> Result<(), Stop>
-        requires { is_file_word file.now ≡ true }
-        ensures runs { Told (F.tells files.old).held (λ held. Performs (file_of held) (load_line file.now ∷ [])
+        requires file { is_file_word file.now ≡ true }
+        requires define { IfSome (option_copied define) (λ word. is_word word ≡ true) }
+        ensures runs { Told (F.tells files.old).held (λ held. Performs (file_of held) (load_line (option_copied define.entry) file.now ∷ [])
             (world self.old (F.tells files.old) (W.tells out.old)) (world self.new (F.tells files.new) (W.tells out.new)) result) }
         ensures causes { FailsByCount (W.tells out.old) (W.tells out.new) result }
     {
-        let outcome = self.engine.load(alloc, files, file, &mut self.reply)?;
+        let outcome = self
+            .engine
+            .load(alloc, files, define, file, &mut self.reply)?;
         send(out, self.reply.as_slice())?;
         self.refused |= outcome.is_refused();
         Ok(())

@@ -32,16 +32,17 @@ fn held(alloc: Global, name: &str, bytes: &str) -> Result<Vec<HeldFile>, AllocEr
     Ok(files)
 }
 
-// A run of `-f f.conf` over sure objects: the file, the input, the output and the status.
+// A run of these words over sure objects: the file `f.conf`, the input, the output and the status.
 fn check(
     rt: &impl Abort,
     alloc: Global,
+    given: &[&str],
     conf: &str,
     input: &str,
     want: &str,
     status: Status,
 ) -> Result<(), AllocError> {
-    let words = words(alloc, &["-f", "f.conf"])?;
+    let words = words(alloc, given)?;
     let mut files = SureFiles::new(held(alloc, "f.conf", conf)?);
     let mut source = SureSource::new(text(alloc, input)?);
     let mut sink = SureSink::new(alloc);
@@ -55,53 +56,119 @@ fn check(
 fn answers(rt: HostRuntime) -> Result<(), Fail> {
     let alloc = rt.alloc();
     let rows = [
-        // The last matching rule decides, and quick ends the walk; words behind the third aren't read.
+        // The last matching rule decides, and quick ends the walk.
         (
             CONF,
-            "in em0 17 10.0.0.1 192.0.2.10\nout em0 17\n",
+            "in em0 17 10.0.0.1 192.0.2.10 sport=1024 dport=53\nout em0 17 10.0.0.1 192.0.2.10 sport=1024 dport=53\n",
             "ok load rulesets=1 rules=3 tables=0\npass keep state\nblock drop\n",
             Status::Done,
         ),
         (
-            CONF,
-            "up em0 17\n",
-            "ok load rulesets=1 rules=3 tables=0\nrefused 11 BadPacket direction\n",
-            Status::Refused,
-        ),
-        (
             "",
-            "in em0 17\n",
+            "in em0 17 10.0.0.1 192.0.2.10 sport=1024 dport=53\n",
             "ok load rulesets=1 rules=0 tables=0\npass no state\n",
             Status::Done,
         ),
         (
             "pass\npass sideways\n",
-            "in em0 17\n",
+            "in em0 17 10.0.0.1 192.0.2.10 sport=1024 dport=53\n",
             "refused 2 LoadFault Syntax f.conf:2\npass no state\n",
+            Status::Refused,
+        ),
+        (
+            "pass\npass $p\n",
+            "",
+            "refused 2 LoadFault MacroUndefined(p) f.conf:2\n",
             Status::Refused,
         ),
         // Empty lines and lines that begin with # have no reply, and what follows them is read.
         (
             "block",
-            "\n# in em0 17\nin em0 6\n\nout em0 6",
+            "\n# in em0\nin em0 tcp 10.0.0.1 192.0.2.10 sport=1024 dport=80\n\nout em0 47 fe80::1 fe80::2",
             "ok load rulesets=1 rules=1 tables=0\nblock drop\nblock drop\n",
             Status::Done,
         ),
+        // A line that is no command, and a record's first fault.
         (
             "block",
-            " \n\t\nin\n in em0\nout em0 256\n",
-            "ok load rulesets=1 rules=1 tables=0\nrefused 1 BadCommand\nrefused 1 BadCommand\nrefused 11 BadPacket interface\nrefused 11 BadPacket protocol\nrefused 11 BadPacket protocol\n",
+            " \n\t\nin em0 47 10.0.0.1 192.0.2.10\r\n",
+            "ok load rulesets=1 rules=1 tables=0\nrefused 1 BadCommand\nrefused 1 BadCommand\nrefused 1 BadCommand\n",
             Status::Refused,
         ),
         (
             "block",
-            "in em0 17\r\n",
-            "ok load rulesets=1 rules=1 tables=0\nrefused 1 BadCommand\n",
+            "up em0 47 10.0.0.1 192.0.2.10\nin\n in em0\nout em0 256\n",
+            "ok load rulesets=1 rules=1 tables=0\nrefused 11 BadPacket direction\nrefused 11 BadPacket interface\nrefused 11 BadPacket protocol\nrefused 11 BadPacket protocol\n",
+            Status::Refused,
+        ),
+        (
+            "block",
+            "in em0 47 10.0.0.1 fe80::1\nin em0 17 10.0.0.1 192.0.2.10 dport=53\nin em0 47 10.0.0.1 192.0.2.10 x=1\n",
+            "ok load rulesets=1 rules=1 tables=0\nrefused 11 BadPacket destination\nrefused 11 BadPacket sport\nrefused 11 BadPacket extra\n",
             Status::Refused,
         ),
     ];
     for (conf, input, want, status) in rows {
-        check(&rt, alloc, conf, input, want, status)?;
+        check(&rt, alloc, &["-f", "f.conf"], conf, input, want, status)?;
+    }
+    Ok(())
+}
+
+#[test]
+fn definitions(rt: HostRuntime) -> Result<(), Fail> {
+    let alloc = rt.alloc();
+    let conf = "p = 17\nblock\npass proto $p\n";
+    let input = "in em0 17 10.0.0.1 192.0.2.10 sport=1024 dport=53\n";
+    let loaded = "ok load rulesets=1 rules=2 tables=0\npass keep state\n";
+    let blocked = "ok load rulesets=1 rules=2 tables=0\nblock drop\n";
+    let no_command = "refused 1 BadCommand\npass no state\n";
+    let rows: [(&[&str], &str, Status); 8] = [
+        (&["-f", "f.conf"], loaded, Status::Done),
+        // What is given holds, whatever the file defines.
+        (&["-f", "f.conf", "-D", "p=6"], blocked, Status::Done),
+        (&["-D", "p=6", "-f", "f.conf"], blocked, Status::Done),
+        (&["-D", "q=6", "-f", "f.conf"], loaded, Status::Done),
+        (
+            &["-D", "p=", "-f", "f.conf"],
+            "refused 2 LoadFault Syntax f.conf:3\npass no state\n",
+            Status::Refused,
+        ),
+        (&["-D", "p", "-f", "f.conf"], no_command, Status::Refused),
+        (&["-D", "=6", "-f", "f.conf"], no_command, Status::Refused),
+        (
+            &["-D", "p-q=6", "-f", "f.conf"],
+            no_command,
+            Status::Refused,
+        ),
+    ];
+    for (given, want, status) in rows {
+        check(&rt, alloc, given, conf, input, want, status)?;
+    }
+    Ok(())
+}
+
+// A macro's value has at most 8,192 bytes.
+#[test]
+fn long_definitions(rt: HostRuntime) -> Result<(), Fail> {
+    let alloc = rt.alloc();
+    let rows = [
+        (8_192, "ok load rulesets=1 rules=1 tables=0\n", Status::Done),
+        (8_193, "refused 1 BadCommand\n", Status::Refused),
+    ];
+    for (count, want, status) in rows {
+        let mut word = String::from_str(alloc, "p=")?;
+        for _ in 0..count {
+            word.push('x')?;
+        }
+        check(
+            &rt,
+            alloc,
+            &["-D", word.as_str(), "-f", "f.conf"],
+            "block\n",
+            "",
+            want,
+            status,
+        )?;
     }
     Ok(())
 }
@@ -109,7 +176,7 @@ fn answers(rt: HostRuntime) -> Result<(), Fail> {
 #[test]
 fn other_words(rt: HostRuntime) -> Result<(), Fail> {
     let alloc = rt.alloc();
-    let rows: [&[&str]; 8] = [
+    let rows: [&[&str]; 12] = [
         &[],
         &["-f"],
         &["f.conf"],
@@ -118,11 +185,15 @@ fn other_words(rt: HostRuntime) -> Result<(), Fail> {
         &["-f", "f g"],
         &["-f", "f.conf", "x"],
         &["-g", "f.conf"],
+        &["-D", "p=1"],
+        &["-f", "f.conf", "-D", "p q"],
+        &["-f", "f.conf", "-f", "f.conf"],
+        &["-D", "p=1", "-D", "q=1", "-f", "f.conf"],
     ];
     for row in rows {
         let words = words(alloc, row)?;
         let mut files = SureFiles::new(Vec::new(alloc));
-        let mut source = SureSource::new(text(alloc, "in em0 17\n")?);
+        let mut source = SureSource::new(text(alloc, "in em0 47 10.0.0.1 192.0.2.10\n")?);
         let mut sink = SureSink::new(alloc);
         let got = run(alloc, words.as_slice(), &mut files, &mut source, &mut sink);
         assert_eq!(rt; got, Status::Words);
@@ -145,7 +216,10 @@ fn check_failing(
     let words = words(alloc, &["-f", "f.conf"])?;
     let mut files = MemoryFiles::new(alloc, held(alloc, name, CONF)?, vec![in alloc; fail_file]?);
     let mut source = MemorySource::new(
-        text(alloc, "out em0 17\nin em0 17")?,
+        text(
+            alloc,
+            "out em0 47 10.0.0.1 192.0.2.10\nin em0 17 10.0.0.1 192.0.2.10 sport=1024 dport=53",
+        )?,
         vec![in alloc; fail_read]?,
     );
     let mut sink = MemorySink::new(alloc, vec![in alloc; fail_write]?);
@@ -280,7 +354,10 @@ fn one_byte_at_a_time(rt: HostRuntime) -> Result<(), Fail> {
     let words = words(alloc, &["-f", "f.conf"])?;
     let mut files = SureFiles::new(held(alloc, "f.conf", CONF)?);
     let mut source = Dribble {
-        inner: SureSource::new(text(alloc, "out em0 17\n\n# x\nin em0 17")?),
+        inner: SureSource::new(text(
+            alloc,
+            "out em0 47 10.0.0.1 192.0.2.10\n\n# x\nin em0 17 10.0.0.1 192.0.2.10 sport=1024 dport=53",
+        )?),
     };
     let mut sink = SureSink::new(alloc);
     let got = run(alloc, words.as_slice(), &mut files, &mut source, &mut sink);
@@ -309,5 +386,35 @@ fn a_file_that_comes_back(rt: HostRuntime) -> Result<(), Fail> {
         assert_eq!(rt; sink.written(), want.as_bytes());
     }
     assert_eq!(rt; files.failed().len(), 1);
+    Ok(())
+}
+
+// An included file is read in the third call, which fails or doesn't.
+#[test]
+fn an_include_that_fails(rt: HostRuntime) -> Result<(), Fail> {
+    let alloc = rt.alloc();
+    for (fail, want, status) in [
+        (0, "ok load rulesets=1 rules=3 tables=0\n", Status::Done),
+        (3, "refused 3 CannotRead b.conf\n", Status::Refused),
+    ] {
+        let words = words(alloc, &["-f", "f.conf"])?;
+        let mut content = held(
+            alloc,
+            "f.conf",
+            "block\ninclude \"a.conf\"\ninclude \"b.conf\"\n",
+        )?;
+        for name in ["a.conf", "b.conf"] {
+            content.push(HeldFile {
+                name: text(alloc, name)?,
+                bytes: text(alloc, "pass in\n")?,
+            })?;
+        }
+        let mut files = MemoryFiles::new(alloc, content, vec![in alloc; fail]?);
+        let mut source = SureSource::new(text(alloc, "")?);
+        let mut sink = SureSink::new(alloc);
+        let got = run(alloc, words.as_slice(), &mut files, &mut source, &mut sink);
+        assert_eq!(rt; got, status);
+        assert_eq!(rt; sink.written(), want.as_bytes());
+    }
     Ok(())
 }

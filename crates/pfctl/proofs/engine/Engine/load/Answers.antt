@@ -1,39 +1,47 @@
-use Rattle.std.proofs.Common.{[], ◌∷◌}
-use Rattle.std.proofs.lemmas.Result.{err_from_is_err_and, IfOk-weaker}
-use Rattle.pfctl.specs.Doing.{is_refused}
-use Rattle.pfctl.proofs.Loads.{load_answers, large_answers, unread_answers, may_fail}
+use Rattle.std.proofs.Common.{◌≡◌, ℕ, List, [], ◌∷◌, Option, None, Some, true, ap, sym, ◌∙◌}
+use Rattle.std.proofs.lemmas.Result.{IfOk-weaker}
+use Rattle.std.specs.Option.{option_copied}
+use Rattle.pf_token.specs.declared.macros.Define.{Define}
+use Rattle.pf_source.specs.Told.{file_of}
+use Rattle.pfctl.specs.Command.{Load, None_of_these, command_of, command_with, load_with_one}
+use Rattle.pfctl.specs.Program.{load_line}
+use Rattle.pfctl.proofs.Commands.{load_command}
+use Rattle.pfctl.proofs.Sessions.{alone_answers}
+use Rattle.pfctl.proofs.Steps.{refused_alone}
 use Rattle.pfctl.proofs.engine.Engine.load.Goals as goal
 
-pub returns-in_err-reply_cannot_read-in-Err-Failed-clause-err :
-    goal.returns-in_err-reply_cannot_read-in-Err-Failed-clause-err
-returns-in_err-reply_cannot_read-in-Err-Failed-clause-err g c =
-    let p = err_from_is_err_and c.from_residual.result c.from_residual.ensures.1 in
-    let read = c.in-Err-Failed in
-    let tells = g.F.Files.tells in
-    rw p.1 (may_fail (tells c.args.files.now) (tells c.read.new.self) 1 (c.args.file.now ∷ []) read.ensures.held (rw read.field-0-is at read.ensures.faults) (rw read.field-0-is at read.ensures.failed))
+pub returns-in_default-clause-answers : goal.returns-in_default-clause-answers
+returns-in_default-clause-answers g c =
+    let file = c.args.file.now in
+    let line = load_line (option_copied c.args.define) file in
+    let command : command_of line ≡ Load [] file =
+    load_command (option_copied c.args.define) file c.requires.define c.requires.file
+    ∙ ap (λ (word : Option (List ℕ)). command_with word file) (ap option_copied c.in_default.is) in
+    IfOk-weaker c.load_with.result _ _ (λ outcome answers. record { at = λ held is. answers.at held is line command }) c.load_with.ensures.answers
 
-pub returns-in-Ok-clause-answers : goal.returns-in-Ok-clause-answers
-returns-in-Ok-clause-answers g c =
-    let read = c.in-Ok in
-    let tells = g.F.Files.tells in
-    let names = c.items.ensures in
-    IfOk-weaker c.load_rules.result _ _ (λ outcome does.
-    load_answers (tells c.args.files.now) (tells c.read.new.self) c.args.self.now c.load_rules.new.self c.args.file.now read.text c.load_rules.new.reply.items (is_refused outcome)
-    c.requires read.ensures.held read.ensures.faults read.ensures.failed read.ensures.content (rw (c.items.ensures, c.items-in-Ok.ensures) at does)) c.load_rules.ensures.does
+pub returns-in-Some-2-clause-answers : goal.returns-in-Some-2-clause-answers
+returns-in-Some-2-clause-answers g c =
+    let file = c.args.file.now in
+    let line = load_line (option_copied c.args.define) file in
+    let command : command_of line ≡ Load (c.in-Some-2.define ∷ []) file =
+    load_command (option_copied c.args.define) file c.requires.define c.requires.file
+    ∙ ap (λ (word : Option (List ℕ)). command_with word file) (ap option_copied c.in-Some.is)
+    ∙ ap (λ (define : Option Define). load_with_one define file) (sym c.in_ok-define.ensures ∙ c.in-Some-2.is) in
+    IfOk-weaker c.load_with-in-Some-2.result _ _ (λ outcome answers. record { at = λ held is. answers.at held is line command }) c.load_with-in-Some-2.ensures.answers
 
-pub returns-in_ok-reply_cannot_read-in-Err-Failed-clause-answers :
-    goal.returns-in_ok-reply_cannot_read-in-Err-Failed-clause-answers
-returns-in_ok-reply_cannot_read-in-Err-Failed-clause-answers g c =
-    let read = c.in-Err-Failed in
-    let tells = g.F.Files.tells in
-    unread_answers (tells c.args.files.now) (tells c.read.new.self) c.args.self.now c.args.file.now c.reply_cannot_read.new.reply.items
-    c.requires read.ensures.held (rw read.field-0-is at read.ensures.faults) (rw read.field-0-is at read.ensures.failed) (rw read.field-0-is at read.ensures.steady) (rw c.items-in-Err-Failed.ensures at c.in_ok-reply_cannot_read-in-Err-Failed.ensures)
-
-pub returns-in_ok-reply_load_fault-in-Err-TooLarge-clause-answers :
-    goal.returns-in_ok-reply_load_fault-in-Err-TooLarge-clause-answers
-returns-in_ok-reply_load_fault-in-Err-TooLarge-clause-answers g c =
-    let read = c.in-Err-TooLarge in
-    let tells = g.F.Files.tells in
-    let large = rw read.field-0-is at read.ensures.too_large in
-    large_answers (tells c.args.files.now) (tells c.read.new.self) c.args.self.now c.args.file.now c.reply_load_fault.new.reply.items
-    c.requires read.ensures.held (rw read.field-0-is at read.ensures.faults) (rw read.field-0-is at read.ensures.failed) large.1 (rw c.items-in-Err-TooLarge.ensures at c.in_ok-reply_load_fault-in-Err-TooLarge.ensures)
+pub returns-in_ok-reply_bad_command-in-None-clause-answers :
+    goal.returns-in_ok-reply_bad_command-in-None-clause-answers
+returns-in_ok-reply_bad_command-in-None-clause-answers g c =
+    let file = c.args.file.now in
+    let line = load_line (option_copied c.args.define) file in
+    let command : command_of line ≡ None_of_these =
+    load_command (option_copied c.args.define) file c.requires.define c.requires.file
+    ∙ ap (λ (word : Option (List ℕ)). command_with word file) (ap option_copied c.in-Some.is)
+    ∙ ap (λ (define : Option Define). load_with_one define file) (sym c.in_ok-define.ensures ∙ c.in-None.is) in
+    let machine = c.args.self.now in
+    let reply = c.reply_bad_command.new.reply.items in
+    record {
+      at = λ held is.
+          alone_answers (file_of held) (g.F.Files.tells c.args.files.now) machine machine line reply true
+          (refused_alone (file_of held) machine line reply command c.in_ok-reply_bad_command-in-None.ensures);
+    }
