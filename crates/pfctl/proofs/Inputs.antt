@@ -1,7 +1,7 @@
 -- The input, read piece by piece.
 use Rattle.std.proofs.Common.{◌≡◌, ℕ, ◌+◌, ◌<◌, ◌≤◌, List, [], ◌∷◌, ◌++◌, length, take, drop, Option, Some, None, refl, sym, ap, ◌∙◌, subst, append_assoc, append-nil, arith, length-append, inl, inr}
 use Rattle.std.specs.Io.KnownBytes.{Consumes, IsAtEnd, Keeps}
-use Rattle.std.proofs.lemmas.List.{take-take, take-append-drop}
+use Rattle.std.proofs.lemmas.List.{take-take, take-append-drop, take_all}
 use Rattle.std.proofs.Math.Seq.{take-append_seam}
 use Rattle.pf_base.specs.Text.{whole_lines, unfinished, lines_of, line_of_rest, IsOneLine}
 use Rattle.pf_base.proofs.Lines.{lines_go_on_lem}
@@ -107,7 +107,7 @@ stops_at_last why first now last a b c old mid new kept allowed h consumed given
   front = h.front;
   reads = reads_same a b c h.front h.reads consumed given;
   lines = lines_of h.front;
-  are = inr (ended, refl);
+  are = inr (record { ended = ended; within = let left = h.left in omega arith; all = refl });
   over = same_stops why first last old new (whole_lines h.front ++ kept ∷ []) (lines_of h.front) (last_lines h.front kept h.tail) (stops_over_more why first now last old mid new (whole_lines h.front) (kept ∷ []) h.runs stops);
 }
 
@@ -127,20 +127,34 @@ one_piece first now last a b c old mid new kept kept' piece allowed allowed' h c
   input_later = let before = h.input_later in omega arith;
 }
 
--- the run stops within a piece, of which `used` was looked at
-pub stops_in_piece : (why : Stop) (first now last : Session) (a b c : SourceTold) (old mid new : SinkTold) (kept piece used more : List ℕ) (allowed : ℕ) → SoFar first now a b old mid kept allowed → Consumes b.left c.left piece → c.given ≡ b.given + length piece → piece ≡ used ++ more → StopsOver why now last mid new (whole_lines (kept ++ used)) → ReadsUntilStop a c (StopsOver why first last old new)
-stops_in_piece why first now last a b c old mid new kept piece used more allowed h consumed given parts stops =
-    let here : StopsOver why first last old new (whole_lines (h.front ++ used)) =
-    subst (λ (ls : List (List ℕ)). StopsOver why first last old new ls) (joined_lines h.front kept used h.tail) (stops_over_more why first now last old mid new (whole_lines h.front) (whole_lines (kept ++ used)) h.runs stops) in
-    let all : whole_lines (h.front ++ used) ++ whole_lines (unfinished (h.front ++ used) ++ more) ≡ whole_lines (h.front ++ piece) =
-    sym (lines_go_on_lem (h.front ++ used) more).whole ∙ ap whole_lines (append_assoc h.front used more ∙ ap (λ rest. h.front ++ rest) (sym parts)) in
+-- the run stops within a piece
+pub stops_in_piece : (why : Stop) (first now last : Session) (a b c : SourceTold) (old mid new : SinkTold) (kept piece : List ℕ) (allowed : ℕ) → SoFar first now a b old mid kept allowed → Consumes b.left c.left piece → c.given ≡ b.given + length piece → length piece ≤ allowed → StopsOver why now last mid new (whole_lines (kept ++ piece)) → ReadsUntilStop a c (StopsOver why first last old new)
+stops_in_piece why first now last a b c old mid new kept piece allowed h consumed given few stops =
+    let within : length (h.front ++ piece) ≤ most_input = let left = h.left in rw (length-append h.front piece) (omega arith) in
     record {
       front = h.front ++ piece;
       reads = reads_more a b c h.front piece h.reads consumed given;
       lines = whole_lines (h.front ++ piece);
-      are = inl refl;
-      over = subst (λ (ls : List (List ℕ)). StopsOver why first last old new ls) all (stops_over_sooner why first last old new (whole_lines (h.front ++ used)) (whole_lines (unfinished (h.front ++ used) ++ more)) here);
+      are = inl (ap whole_lines (sym (take_all most_input (h.front ++ piece) within)));
+      over = subst (λ (ls : List (List ℕ)). StopsOver why first last old new ls) (joined_lines h.front kept piece h.tail) (stops_over_more why first now last old mid new (whole_lines h.front) (whole_lines (kept ++ piece)) h.runs stops);
     }
+
+-- what ends within the limit of a piece that goes past it
+front_within : (front piece used more : List ℕ) (allowed : ℕ) → allowed + length front ≡ most_input → piece ≡ used ++ more → length used ≡ allowed → take most_input (front ++ piece) ≡ front ++ used
+front_within front piece used more allowed left parts long =
+    let most : length (front ++ used) ≡ most_input = rw (length-append front used) (omega arith) in
+    let whole : front ++ piece ≡ (front ++ used) ++ more = ap (λ rest. front ++ rest) parts ∙ sym (append_assoc front used more) in
+    ap (take most_input) whole ∙ (ap (λ n. take n ((front ++ used) ++ more)) (sym most) ∙ take-append_seam (front ++ used) more)
+
+-- the run stops within the limit of a piece that goes past it
+pub stops_past_limit : (why : Stop) (first now last : Session) (a b c : SourceTold) (old mid new : SinkTold) (kept piece used more : List ℕ) (allowed : ℕ) → SoFar first now a b old mid kept allowed → Consumes b.left c.left piece → c.given ≡ b.given + length piece → piece ≡ used ++ more → length used ≡ allowed → StopsOver why now last mid new (whole_lines (kept ++ used)) → ReadsUntilStop a c (StopsOver why first last old new)
+stops_past_limit why first now last a b c old mid new kept piece used more allowed h consumed given parts long stops = record {
+  front = h.front ++ piece;
+  reads = reads_more a b c h.front piece h.reads consumed given;
+  lines = whole_lines (h.front ++ used);
+  are = inl (ap whole_lines (sym (front_within h.front piece used more allowed h.left parts long)));
+  over = subst (λ (ls : List (List ℕ)). StopsOver why first last old new ls) (joined_lines h.front kept used h.tail) (stops_over_more why first now last old mid new (whole_lines h.front) (whole_lines (kept ++ used)) h.runs stops);
+}
 
 -- more was read than the limit
 pub ends_past_limit : (first now last : Session) (a b c : SourceTold) (old mid new : SinkTold) (kept piece used more : List ℕ) (allowed : ℕ) → SoFar first now a b old mid kept allowed → Consumes b.left c.left piece → c.given ≡ b.given + length piece → piece ≡ used ++ more → length used ≡ allowed → 0 < length more → RunsOver now last mid new (whole_lines (kept ++ used)) → ReadsPastLimit a c (RunsOver first last old new)
@@ -149,7 +163,7 @@ ends_past_limit first now last a b c old mid new kept piece used more allowed h 
     subst (λ (ls : List (List ℕ)). RunsOver first last old new ls) (joined_lines h.front kept used h.tail) (runs_over_more first now last old mid new (whole_lines h.front) (whole_lines (kept ++ used)) h.runs runs) in
     let most : length (h.front ++ used) ≡ most_input = let left = h.left in rw (length-append h.front used) (omega arith) in
     let whole : h.front ++ piece ≡ (h.front ++ used) ++ more = ap (λ rest. h.front ++ rest) parts ∙ sym (append_assoc h.front used more) in
-    let front : take most_input (h.front ++ piece) ≡ h.front ++ used = ap (take most_input) whole ∙ (ap (λ n. take n ((h.front ++ used) ++ more)) (sym most) ∙ take-append_seam (h.front ++ used) more) in
+    let front : take most_input (h.front ++ piece) ≡ h.front ++ used = front_within h.front piece used more allowed h.left parts long in
     record {
       front = h.front ++ piece;
       reads = reads_more a b c h.front piece h.reads consumed given;

@@ -1,5 +1,5 @@
 -- The input: its lines, and what was read of it.
-use Rattle.std.specs.Prelude.{◌≡◌, ℕ, ◌+◌, Bool, false, not, ◌==◌, List, [], ◌∷◌, ◌++◌, length, map, codes}
+use Rattle.std.specs.Prelude.{◌≡◌, ℕ, ◌+◌, Bool, false, not, ◌==◌, List, [], ◌∷◌, ◌++◌, ◌≤◌, length, take, map, codes}
 use Rattle.std.proofs.Common.{◌⊎◌}
 use Rattle.std.specs.List.{filter}
 use Rattle.std.specs.Io.KnownBytes.{Consumes, IsAtEnd}
@@ -27,6 +27,12 @@ pub record Reads (old new : SourceTold) (front : List ℕ) : Type 0 where
   pub consumed : Consumes old.left new.left front
   pub given : new.given ≡ old.given + length front
 
--- the whole lines of what was read, or at the end of the input all of them
+-- the input was read to its end within its limit, and these are all its lines
+pub record AreAll (new : SourceTold) (front : List ℕ) (lines : List (List ℕ)) : Type 0 where
+  pub ended : IsAtEnd new.left
+  pub within : length front ≤ most_input
+  pub all : lines ≡ lines_of front
+
+-- the lines that end within the limit in what was read, or at the end of the input all of them
 abbrev pub LinesRead : SourceTold → List ℕ → List (List ℕ) → Type 0
-LinesRead new front lines = (lines ≡ whole_lines front) ⊎ (IsAtEnd new.left × (lines ≡ lines_of front))
+LinesRead new front lines = (lines ≡ whole_lines (take most_input front)) ⊎ AreAll new front lines

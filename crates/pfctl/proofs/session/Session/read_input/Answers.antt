@@ -1,7 +1,7 @@
 use Rattle.std.proofs.Common.{◌≡◌, ◌-◌, [], length, take, drop, sym, arith, append-nil}
 use Rattle.std.proofs.lemmas.List.{length-take-le, length-drop}
 use Rattle.std.proofs.lemmas.Result.{err_from_is_err_and}
-use Rattle.pfctl.proofs.Inputs.{kept_is_one_line, nothing_so_far, ends_whole, stops_at_last, one_piece, stops_in_piece, ends_past_limit, first_of_piece}
+use Rattle.pfctl.proofs.Inputs.{kept_is_one_line, nothing_so_far, ends_whole, stops_at_last, one_piece, stops_in_piece, stops_past_limit, ends_past_limit, first_of_piece}
 use Rattle.pfctl.proofs.session.Session.read_input.Goals as goal
 
 pub loop-count-init : goal.loop-count-init
@@ -28,8 +28,8 @@ returns-in_err-feed-clause-ends g c =
     let p = err_from_is_err_and c.from_residual-in_err-feed.result c.from_residual-in_err-feed.ensures.1 in
     let buf = c.read.new.buf in
     let long : length (take c.in-Ok.count buf) ≡ c.in-Ok.count = length-take-le c.in-Ok.count buf (omega (arith, c.in-Ok.ensures.within)) in
-    rw (p.1, p.2) (stops_in_piece c.in_err-feed.field-0.0 c.args.self.now c.loop-count.self c.feed.new.self (g.S.Source.tells c.args.input.now) (g.S.Source.tells c.loop-count.input) (g.S.Source.tells c.read.new.self) (g.W.Sink.tells c.args.out.now) (g.W.Sink.tells c.loop-count.out) (g.W.Sink.tells c.feed.new.out) c.loop-count.kept.items (take c.in-Ok.count buf) (take c.loop-count.allowed buf) (drop c.loop-count.allowed (take c.in-Ok.count buf)) c.loop-count.allowed c.loop-count.invariant
-    c.in-Ok.ensures.bytes (rw long c.in-Ok.ensures.given) (first_of_piece buf c.in-Ok.count c.loop-count.allowed (omega arith)) c.in_err-feed.ensures.stops)
+    rw (p.1, p.2) (stops_past_limit c.in_err-feed.field-0.0 c.args.self.now c.loop-count.self c.feed.new.self (g.S.Source.tells c.args.input.now) (g.S.Source.tells c.loop-count.input) (g.S.Source.tells c.read.new.self) (g.W.Sink.tells c.args.out.now) (g.W.Sink.tells c.loop-count.out) (g.W.Sink.tells c.feed.new.out) c.loop-count.kept.items (take c.in-Ok.count buf) (take c.loop-count.allowed buf) (drop c.loop-count.allowed (take c.in-Ok.count buf)) c.loop-count.allowed c.loop-count.invariant
+    c.in-Ok.ensures.bytes (rw long c.in-Ok.ensures.given) (first_of_piece buf c.in-Ok.count c.loop-count.allowed (omega arith)) (length-take-le c.loop-count.allowed buf (omega (arith, c.in-Ok.ensures.within))) c.in_err-feed.ensures.stops)
 
 pub returns-then-count-allowed-clause-ends : goal.returns-then-count-allowed-clause-ends
 returns-then-count-allowed-clause-ends g c =
@@ -47,8 +47,8 @@ returns-in_err-feed-2-clause-ends g c =
     let buf = c.read.new.buf in
     let piece = take c.in-Ok.count buf in
     let long : length (take c.in-Ok.count buf) ≡ c.in-Ok.count = length-take-le c.in-Ok.count buf (omega (arith, c.in-Ok.ensures.within)) in
-    rw (p.1, p.2) (stops_in_piece c.in_err-feed-2.field-0.0 c.args.self.now c.loop-count.self c.feed-in-loop-count.new.self (g.S.Source.tells c.args.input.now) (g.S.Source.tells c.loop-count.input) (g.S.Source.tells c.read.new.self) (g.W.Sink.tells c.args.out.now) (g.W.Sink.tells c.loop-count.out) (g.W.Sink.tells c.feed-in-loop-count.new.out) c.loop-count.kept.items piece piece [] c.loop-count.allowed c.loop-count.invariant
-    c.in-Ok.ensures.bytes (rw long c.in-Ok.ensures.given) (sym (append-nil piece)) c.in_err-feed-2.ensures.stops)
+    rw (p.1, p.2) (stops_in_piece c.in_err-feed-2.field-0.0 c.args.self.now c.loop-count.self c.feed-in-loop-count.new.self (g.S.Source.tells c.args.input.now) (g.S.Source.tells c.loop-count.input) (g.S.Source.tells c.read.new.self) (g.W.Sink.tells c.args.out.now) (g.W.Sink.tells c.loop-count.out) (g.W.Sink.tells c.feed-in-loop-count.new.out) c.loop-count.kept.items piece c.loop-count.allowed c.loop-count.invariant
+    c.in-Ok.ensures.bytes (rw long c.in-Ok.ensures.given) (rw long (omega arith)) c.in_err-feed-2.ensures.stops)
 
 pub loop-count-preserved : goal.loop-count-preserved
 loop-count-preserved g c =
