@@ -334,11 +334,11 @@ fn large_files(rt: HostRuntime) -> Result<(), Fail> {
 // A source that gives one byte at a time.
 #[derive(Drop)]
 struct Dribble {
-    inner: SureSource,
+    inner: MemorySource,
 }
 
 impl Source for Dribble {
-    ghost tells = { λ source. ⟦<SureSource as Source>⟧.tells source.inner };
+    ghost tells = { λ source. ⟦<MemorySource as Source>⟧.tells source.inner };
 
     fn read(&mut self, buf: &mut [u8]) -> Result<usize, Failed> {
         if buf.is_empty() {
@@ -353,11 +353,10 @@ fn one_byte_at_a_time(rt: HostRuntime) -> Result<(), Fail> {
     let alloc = rt.alloc();
     let words = words(alloc, &["-f", "f.conf"])?;
     let mut files = SureFiles::new(held(alloc, "f.conf", CONF)?);
+    let input =
+        "out em0 47 10.0.0.1 192.0.2.10\n\n# x\nin em0 17 10.0.0.1 192.0.2.10 sport=1024 dport=53";
     let mut source = Dribble {
-        inner: SureSource::new(text(
-            alloc,
-            "out em0 47 10.0.0.1 192.0.2.10\n\n# x\nin em0 17 10.0.0.1 192.0.2.10 sport=1024 dport=53",
-        )?),
+        inner: MemorySource::new(text(alloc, input)?, Vec::new(alloc)),
     };
     let mut sink = SureSink::new(alloc);
     let got = run(alloc, words.as_slice(), &mut files, &mut source, &mut sink);
@@ -366,6 +365,89 @@ fn one_byte_at_a_time(rt: HostRuntime) -> Result<(), Fail> {
         sink.written(),
         b"ok load rulesets=1 rules=3 tables=0\nblock drop\npass keep state\n".as_slice()
     );
+    Ok(())
+}
+
+// The replies to four records of one byte each, of which the last has no newline, and to the load before them.
+const REPLIES: [&str; 5] = [
+    "ok load rulesets=1 rules=3 tables=0\n",
+    "refused 11 BadPacket direction\n",
+    "refused 11 BadPacket direction\n",
+    "refused 11 BadPacket direction\n",
+    "refused 11 BadPacket direction\n",
+];
+
+// What that run writes, with its status, where one read of one byte and one write fail.
+fn write_of(
+    alloc: Global,
+    fail_read: u64,
+    fail_write: FailedWrite,
+) -> Result<(Vec<u8>, Status), AllocError> {
+    let words = words(alloc, &["-f", "f.conf"])?;
+    let mut files = SureFiles::new(held(alloc, "f.conf", CONF)?);
+    let mut source = Dribble {
+        inner: MemorySource::new(text(alloc, "x\ny\nz\nw")?, vec![in alloc; fail_read]?),
+    };
+    let mut sink = MemorySink::new(alloc, vec![in alloc; fail_write]?);
+    let status = run(alloc, words.as_slice(), &mut files, &mut source, &mut sink);
+    Ok((Vec::from_slice(alloc, sink.written())?, status))
+}
+
+// The first replies, and so many bytes of the next one at most.
+fn front(alloc: Global, whole: usize, taken: usize) -> Result<Vec<u8>, AllocError> {
+    let mut front = Vec::new(alloc);
+    for (i, reply) in REPLIES.iter().enumerate() {
+        let bytes = reply.as_bytes();
+        if i < whole {
+            front.extend_from_slice(bytes)?;
+        } else if i == whole {
+            front.extend_from_slice(&bytes[..taken.min(bytes.len())])?;
+        }
+    }
+    Ok(front)
+}
+
+const NEVER: FailedWrite = FailedWrite { call: 0, taken: 0 };
+
+// Each read fails in turn: what is written is the output of the lines that were whole before.
+#[test]
+fn each_read_fails(rt: HostRuntime) -> Result<(), Fail> {
+    let alloc = rt.alloc();
+    for (read, replies, status) in [
+        (0u64, 5usize, Status::Refused),
+        (1, 1, Status::ReadFault),
+        (2, 1, Status::ReadFault),
+        (3, 2, Status::ReadFault),
+        (4, 2, Status::ReadFault),
+        (5, 3, Status::ReadFault),
+        (6, 3, Status::ReadFault),
+        (7, 4, Status::ReadFault),
+        (8, 4, Status::ReadFault),
+    ] {
+        let (written, got) = write_of(alloc, read, NEVER)?;
+        assert_eq!(rt; got, status, "{read}");
+        let wanted = front(alloc, replies, 0)?;
+        assert_eq!(rt; written.as_slice(), wanted.as_slice(), "{read}");
+    }
+    Ok(())
+}
+
+// Each write fails in turn, and takes some bytes: the replies before stand whole.
+#[test]
+fn each_write_fails(rt: HostRuntime) -> Result<(), Fail> {
+    let alloc = rt.alloc();
+    for before in 0..5usize {
+        for taken in [0usize, 1, 2, 3, 99] {
+            let fail = FailedWrite {
+                call: before as u64 + 1,
+                taken: taken as u64,
+            };
+            let (written, status) = write_of(alloc, 0, fail)?;
+            assert_eq!(rt; status, Status::WriteFault, "{before} {taken}");
+            let wanted = front(alloc, before, taken)?;
+            assert_eq!(rt; written.as_slice(), wanted.as_slice(), "{before} {taken}");
+        }
+    }
     Ok(())
 }
 
