@@ -1,16 +1,13 @@
 -- A load from its beginning: its first file is read, and then the rest of its unit.
-use Rattle.std.proofs.Common.{◌≡◌, ℕ, List, [], ◌∷◌, Option, Some, None, Result, Ok, Err, refl, sym, ap, subst, ◌∙◌, ◌⊎◌, inl, inr}
-use Rattle.std.specs.Prelude.{nat_eq}
-use Rattle.std.specs.Cmp.Lexicographic.{pointwise}
-use Rattle.std.specs.Option.{option_map}
+use Rattle.std.proofs.Common.{◌≡◌, ℕ, List, Some, Result, Ok, Err, refl, sym, ap, subst, inl, inr}
 use Rattle.pf_runs.specs.Runs.{Disk, without}
-use Rattle.pf_token.specs.Macros.{Table, values_of}
+use Rattle.pf_token.specs.Macros.{values_of}
 use Rattle.pf_token.specs.declared.cell.Cell.{Cell}
 use Rattle.pf_token.specs.declared.macros.Define.{Define}
 use Rattle.pf_lexer.specs.Calls.{IsUnopened}
 use Rattle.pf_lexer.specs.ReadSoFar.{ReadSoFar}
 use Rattle.pf_lexer.specs.Stages.{Stage}
-use Rattle.pf_lexer.specs.Units.{Begins, Opens, large, opened, start_in, unread}
+use Rattle.pf_lexer.specs.Units.{Begins, Opens, large, opened, unread}
 use Rattle.pf_lexer.specs.declared.fault.LexFault.{LexFault}
 use Rattle.pf_lexer.specs.declared.fault.LexFault.TheVariants as lexical
 use Rattle.pf_load.specs.Load.{Loads, LoadsOn, MayBe, Outcome, Tells, begun, fault_of, nothing_read, unopened}
@@ -19,7 +16,6 @@ use Rattle.pf_load.specs.declared.loading.LoadFault.TheVariants.{File, CannotRea
 use Rattle.pf_load.proofs.Following.{is_true, is_unread}
 use Rattle.pf_lexer.specs.Outages.{Lacks, OpensWithout}
 use Rattle.pf_load.proofs.Lacking.{is_absent, lacks}
-use Rattle.pf_rule.specs.declared.rule.Rule.{Rule}
 
 -- the lexer's law: without one file a reading is the same, or that file can't be read
 abbrev pub OpenWithout : Type 0

@@ -1,5 +1,5 @@
 -- A load goes on from statement to statement.
-use Rattle.std.proofs.Common.{◌≡◌, ℕ, ◌+◌, ◌<◌, true, List, [], ◌∷◌, ◌++◌, length, Option, Some, None, Result, Ok, Err, refl, sym, ap, subst, ◌∙◌, ◌⊎◌, inl, inr, append_assoc, append-nil, arith}
+use Rattle.std.proofs.Common.{◌≡◌, ℕ, ◌<◌, List, [], ◌∷◌, ◌++◌, length, Option, Some, None, Ok, Err, refl, sym, ap, subst, ◌∙◌, inl, inr, append_assoc, append-nil, arith}
 use Rattle.std.specs.Prelude.{slice_get}
 use Rattle.std.specs.Option.{option_map}
 use Rattle.pf_base.specs.declared.fault.FaultKind.{FaultKind}
@@ -7,8 +7,8 @@ use Rattle.pf_base.specs.declared.fault.FaultKind.TheVariants as kinds
 use Rattle.pf_base.specs.declared.fault.Place.{Place}
 use Rattle.pf_source.specs.Causes.{RoseBy}
 use Rattle.pf_source.specs.Files.{StaysHeld}
-use Rattle.pf_source.specs.Told.{FilesTold, Told, file_of}
-use Rattle.pf_runs.specs.Runs.{AddsNames, Disk, without}
+use Rattle.pf_source.specs.Told.{FilesTold}
+use Rattle.pf_runs.specs.Runs.{Disk, without}
 use Rattle.pf_runs.proofs.RunLemmas.{AddsNames-more, AddsNames-none}
 use Rattle.pf_token.specs.declared.token.Token.{Token}
 use Rattle.pf_lexer.specs.Calls.{Added, AreNumbered, FailOnlyAbsent, IsGoing, IsTrueTo, StopsWith, failed_names, unread_in}
@@ -19,7 +19,7 @@ use Rattle.pf_lexer.specs.declared.deed.Statement.{Statement}
 use Rattle.pf_lexer.specs.declared.fault.LexFault.{LexFault}
 use Rattle.pf_lexer.specs.declared.fault.LexFault.TheVariants as lexical
 use Rattle.pf_load.specs.Line.{said, said_from}
-use Rattle.pf_load.specs.Load.{Asks, LoadsOn, MayBe, Outcome, Tells, behind, end_in, ends, fault_at, fault_of, fault_said, goes_on, rules_in, rules_said}
+use Rattle.pf_load.specs.Load.{Asks, LoadsOn, MayBe, Outcome, Tells, behind, ends, fault_at, fault_of, fault_said, goes_on, rules_in}
 use Rattle.pf_load.specs.declared.line.Said.{Said}
 use Rattle.pf_load.specs.declared.line.Said.TheVariants as says
 use Rattle.pf_load.specs.declared.loading.LoadFault.{LoadFault}

@@ -1,5 +1,5 @@
 -- Over a disk a load comes to one thing, where each call of the lexer leads to one answer.
-use Rattle.std.proofs.Common.{◌≡◌, ℕ, List, [], ◌∷◌, Option, Some, None, Result, Ok, Err, refl, sym, ap, subst, ◌∙◌}
+use Rattle.std.proofs.Common.{◌≡◌, ℕ, List, Some, None, Result, Ok, Err, sym, ap, subst, ◌∙◌}
 use Rattle.std.specs.Option.{option_map}
 use Rattle.pf_runs.specs.Runs.{Disk}
 use Rattle.pf_token.specs.Macros.{values_of}

@@ -1,5 +1,5 @@
 -- No load comes to a want of memory.
-use Rattle.std.proofs.Common.{◌≡◌, ℕ, List, Option, Some, None, Result, Ok, Err, refl, ap, ◌∙◌, sym}
+use Rattle.std.proofs.Common.{◌≡◌, ℕ, List, Option, Some, None, Ok, Err, ap, ◌∙◌}
 use Rattle.std.specs.Prelude.{slice_get}
 use Rattle.std.specs.Option.{option_map}
 use Rattle.pf_base.specs.declared.fault.FaultKind.{FaultKind}
@@ -17,7 +17,7 @@ use Rattle.pf_load.specs.Load.{Loads, LoadsOn, Outcome, begun, behind, end_in, e
 use Rattle.pf_load.specs.declared.line.Said.{Said}
 use Rattle.pf_load.specs.declared.line.Said.TheVariants as says
 use Rattle.pf_load.specs.declared.loading.LoadFault.{LoadFault}
-use Rattle.pf_load.specs.declared.loading.LoadFault.TheVariants.{File, CannotRead, NoMemory}
+use Rattle.pf_load.specs.declared.loading.LoadFault.TheVariants.{File, NoMemory}
 use Rattle.pf_rule.specs.declared.rule.Rule.{Rule}
 
 no_memory_at : (names : List (List ℕ)) (kind : FaultKind) (place : Place) → fault_at names kind place ≡ Some NoMemory → ⊥

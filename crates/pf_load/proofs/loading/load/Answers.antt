@@ -1,4 +1,4 @@
-use Rattle.std.proofs.Common.{◌≡◌, Err, Ok, ◌∙◌, sym}
+use Rattle.std.proofs.Common.{◌∙◌}
 use Rattle.pf_source.specs.Told.{file_of}
 use Rattle.pf_load.proofs.Beginning.{begins, stops_first}
 use Rattle.pf_load.proofs.loading.load.Goals as goal

@@ -1,14 +1,10 @@
-use Rattle.std.proofs.Common.{◌≡◌, List, [], ◌∷◌, ◌++◌, Some, Ok, Err, sym, ap, ◌∙◌, append-nil, subst}
-use Rattle.std.proofs.lemmas.Result.{err_from_is_err_and}
+use Rattle.std.proofs.Common.{[], ◌∷◌, Some, Ok, Err, sym, ap, ◌∙◌, append-nil}
 use Rattle.pf_source.specs.Told.{file_of}
 use Rattle.pf_lexer.specs.Calls.{unread_by as unread_by_lexer}
-use Rattle.pf_load.specs.Line.{said}
 use Rattle.pf_load.specs.Load.{rules_said}
-use Rattle.pf_load.specs.declared.line.Said.{Said}
 use Rattle.pf_load.proofs.Following.{asked_on, at_end, at_fault, at_faulty, lexer_asks, one_more}
 use Rattle.pf_load.proofs.loading.read_rules.Goals as goal
 use Rattle.pf_load.proofs.loading.read_rules.Goals.{in-Nothing, in-Rule+in_ok-push-in-Rule}
-use Rattle.pf_rule.specs.declared.rule.Rule.{Rule}
 
 pub returns-in-Faulty-clause-means : goal.returns-in-Faulty-clause-means
 returns-in-Faulty-clause-means g c = record {
