@@ -1,8 +1,7 @@
 -- The lines of a text, and the fields of a line.
-use Rattle.std.proofs.Common.{◌≡◌, ℕ, ◌≤◌, Bool, true, false, cond, ◌&&◌, List, [], ◌∷◌, Some, None, length, nat_le, ◌==◌, leb-true, arith, refl, sym, ap, ◌∙◌, if◌then◌else◌}
+use Rattle.std.proofs.Common.{◌≡◌, ℕ, Bool, true, false, cond, List, [], ◌∷◌, length, ◌==◌, arith, refl, sym, ap, ◌∙◌}
 use Rattle.std.specs.List.{onto_first, slice_split}
 use Rattle.std.proofs.lemmas.Bool.{eqb-true}
-use Rattle.pf_base.specs.Decimal.{decimal_of, digits_after, is_decimal}
 use Rattle.pf_base.specs.Text.{CutsLine, EndsNoLine, fields_of, is_space, line_of_rest, lines_of, unfinished, whole_lines}
 use Rattle.pf_host.specs.Line.{is_one}
 
@@ -37,14 +36,3 @@ pub not_one : (word rest : List ℕ) → is_one (word ∷ fields_of rest) ≡ fa
 unfolding fields_of
 not_one word [] = refl
 not_one word (x ∷ rest) = two_parts word (is_space x) x (slice_split is_space rest)
-
-at_most : (b1 b2 : Bool) (n m most : ℕ) → b2 ≡ nat_le n most → (if (b1 && b2) then Some n else None) ≡ Some m → m ≤ most
-at_most true true n m most e h = let same : n ≡ m = cc in rw (← same) (leb-true n most (sym e))
-at_most true false n m most e h = cc
-at_most false true n m most e h = cc
-at_most false false n m most e h = cc
-
--- a number that was read is in its range
-pub decimal_at_most : (most : ℕ) (text : List ℕ) (n : ℕ) → decimal_of most text ≡ Some n → n ≤ most
-unfolding decimal_of
-decimal_at_most most text n h = at_most (is_decimal text) (nat_le (digits_after 0 text) most) (digits_after 0 text) n most refl h

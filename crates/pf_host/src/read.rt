@@ -18,10 +18,10 @@ use crate::iface_address::IfaceAddress;
 use crate::index::Index;
 use crate::names::Names;
 use crate::statement::{Statement, read_statement};
-use crate::word::{name_of, read_address};
+use crate::word::read_address;
 use pf_addr::parse_addr;
 use pf_base::text::{decimal, split_field, split_line};
-use pf_base::{Name, NoMemory};
+use pf_base::{Name, NoMemory, plain_name};
 use std::alloc::Global;
 
 // How many lines about interfaces, and how many about their addresses, may stand.
@@ -192,7 +192,7 @@ fn add_groups(
     let mut next = rest;
     while let Some(text) = next {
         let (word, behind) = split_field(text);
-        let Some(group) = name_of(word) else {
+        let Some(group) = plain_name(word) else {
             unreachable!();
         };
         members.push(alloc, iface, group)?;

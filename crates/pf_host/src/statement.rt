@@ -8,9 +8,8 @@ ghost use Rattle.pf_host.specs.Line.{is_one, is_rest, line_of};
 ghost use Rattle.pf_host.specs.Reading.{IsFit, IsRead, fields_left, line_read};
 
 use crate::kind::{Kind, kind_of};
-use crate::word::name_of;
-use pf_base::Name;
 use pf_base::text::split_field;
+use pf_base::{Name, plain_name};
 
 // A line: its name and what stands behind it.
 #[derive(Drop)]
@@ -30,7 +29,7 @@ fn are_names(rest: Option<&[u8]>) -> bool
     let mut next = rest;
     while let Some(text) = next {
         let (word, behind) = split_field(text);
-        if name_of(word).is_none() {
+        if plain_name(word).is_none() {
             return false;
         }
         next = behind;
@@ -81,5 +80,5 @@ pub(crate) fn read_statement(text: &[u8]) -> Option<Statement<'_>>
     let (keyword, rest) = split_field(text);
     let kind = kind_of(keyword)?;
     let (name, rest) = split_field(rest?);
-    statement_of(kind, name_of(name)?, rest)
+    statement_of(kind, plain_name(name)?, rest)
 }

@@ -1,7 +1,5 @@
-//! The words behind the name of a line: addresses and names.
-ghost use Rattle.std.specs.Prelude.{◌≡◌, ℕ, ◌≤◌, ◌≢◌, ◌∷◌, ◌++◌, if◌then◌else◌, Some, None, All, IfOk, IfSome, IfNone, MatchOption};
-ghost use Rattle.std.specs.List.{list_all};
-ghost use Rattle.pf_base.specs.Name.{is_name_byte, is_plain_name};
+//! The word behind the name of a line about an address.
+ghost use Rattle.std.specs.Prelude.{◌≡◌, ℕ, ◌≤◌, ◌≢◌, ◌∷◌, ◌++◌, All, IfOk, IfSome, IfNone, MatchOption};
 ghost use Rattle.pf_addr.specs.Addr.{width};
 ghost use Rattle.pf_addr.specs.Grammar.{IsIpv4, IsNetworkText, IsShortIpv4, slash, zeros};
 ghost use Rattle.pf_addr.specs.declared.addr.Addr.{Addr as Address};
@@ -9,33 +7,8 @@ ghost use Rattle.pf_host.specs.Reading.{GivesAddress};
 
 use crate::fault::{FactsCause, LineFault};
 use pf_addr::{Addr, Prefix, parse_addr, parse_prefix};
-use pf_base::{Name, NoMemory};
+use pf_base::NoMemory;
 use std::alloc::{AllocError, Global};
-
-// May the byte stand in a name?
-fn may_stand(byte: u8) -> bool
-    ensures { result ≡ is_name_byte byte }
-{
-    byte.is_ascii_alphanumeric() || matches!(byte, b'_' | b'-' | b'.' | b':' | b'+' | b'@')
-}
-
-// Are all bytes of the word those of names?
-fn are_name_bytes(word: &[u8]) -> bool
-    ensures { result ≡ list_all is_name_byte word.now }
-{
-    word.iter().all(|byte| may_stand(*byte))
-}
-
-// The name of this word, where it is one.
-#[tactic(auto, unfolding(pf_base::specs::Name::is_plain_name))]
-pub(crate) fn name_of(word: &[u8]) -> Option<Name>
-    ensures { result ≡ (if is_plain_name word.now then Some word.now else None) }
-{
-    if !are_name_bytes(word) {
-        return None;
-    }
-    Name::new(word)
-}
 
 // The parts before and behind the first `/`.
 fn split_mask(word: &[u8]) -> Option<(&[u8], &[u8])>

@@ -1,108 +1,100 @@
 -- Which rule has decided at the end of a walk.
-use Rattle.std.proofs.Common.{◌≡◌, Bool, true, false, cond, Option, Some, None, List, [], ◌∷◌, ◌++◌, refl, ap, sym, ◌∙◌}
-use Rattle.std.specs.Prelude.{find, reverse, ◌&&◌, ◌||◌}
-use Rattle.std.proofs.lemmas.List.{reverse-append}
-use Rattle.pf_rule.specs.Deciding.{matches, matches_quick}
-use Rattle.pf_rule.specs.Effect.{decision_of, effect_on}
+use Rattle.std.proofs.Common.{◌≡◌, Bool, true, false, cond, List, [], ◌∷◌, ◌++◌, refl, ap, sym, ◌∙◌, append_assoc}
+use Rattle.std.specs.Prelude.{IsTrue, ◌&&◌, ◌||◌}
+use Rattle.pf_rule.specs.Around.{Around}
+use Rattle.pf_rule.specs.Deciding.{Decides, NoneDecides}
+use Rattle.pf_rule.specs.Effect.{decision_of, effect_on, is_deciding}
+use Rattle.pf_rule.specs.Hit.{hits_at}
 use Rattle.pf_rule.specs.Walk.{walked, walked_one}
 use Rattle.pf_rule.specs.declared.rule.Rule.{Rule}
-use Rattle.pf_rule.specs.declared.walk.Decision.{Decision}
-use Rattle.pf_rule.specs.declared.walk.Answer.{Answer}
 use Rattle.pf_rule.specs.declared.walk.Walk.{Walk}
-use Rattle.pf_rule.proofs.Walks.{walked_stopped, walked_on}
+use Rattle.pf_rule.proofs.Effects.{decides_last, quick_stops, rests_last}
+use Rattle.pf_rule.proofs.Walks.{walked_on, walked_stopped}
 
--- what a rule decides, or else this
-abbrev pub decided_by : Option Rule → Decision → Decision
-decided_by None decision = decision
-decided_by (Some rule) decision = decision_of rule.effect
+-- a walk through two lists is a walk through the second after one through the first
+pub walked_append : (around : Around) (front back : List Rule) (walk : Walk)
+    → walked around (front ++ back) walk ≡ walked around back (walked around front walk)
+walked_append around [] back walk = refl
+walked_append around (rule ∷ front) back walk =
+    elim walk.stop as (λ b. walk.stop ≡ b → cond b walk (walked around (front ++ back) (walked_one around rule walk)) ≡ walked around back (cond b walk (walked around front (walked_one around rule walk))))
+    [ true ↦ (λ stopped. sym (walked_stopped around back walk stopped)) | false ↦ (λ going. walked_append around front back (walked_one around rule walk)) ] refl
 
--- what the last of two finds decides
-decided_push : (p : Rule → Bool) (rules : List Rule) (rule : Rule) (decision : Decision)
-    → decided_by (find p (rules ++ rule ∷ [])) decision ≡ decided_by (find p rules) (decided_by (find p (rule ∷ [])) decision)
-decided_push p [] rule decision = refl
-decided_push p (first ∷ rules) rule decision =
-    elim (p first) as (λ b. decided_by (cond b (Some first) (find p (rules ++ rule ∷ []))) decision ≡ decided_by (cond b (Some first) (find p rules)) (decided_by (find p (rule ∷ [])) decision))
-    [ true ↦ refl | false ↦ decided_push p rules rule decision ]
+-- a rule that hits has its effect
+takes : (around : Around) (rule : Rule) (walk : Walk) → hits_at around rule walk ≡ true → walked_one around rule walk ≡ effect_on rule.effect walk
+takes around rule walk hit = ap (λ b. cond b (effect_on rule.effect walk) walk) hit
 
--- a rule that doesn't match is passed over
-passes_over : (rule : Rule) (walk : Walk) → matches walk.packet rule ≡ false → walked_one rule walk ≡ walk
-passes_over rule walk missed = ap (λ b. cond b (effect_on rule.effect walk) walk) missed
+-- one that doesn't is passed over
+passes_over : (around : Around) (rule : Rule) (walk : Walk) → hits_at around rule walk ≡ false → walked_one around rule walk ≡ walk
+passes_over around rule walk missed = ap (λ b. cond b (effect_on rule.effect walk) walk) missed
 
--- one that does decides
-takes : (rule : Rule) (walk : Walk) → matches walk.packet rule ≡ true → walked_one rule walk ≡ effect_on rule.effect walk
-takes rule walk hit = ap (λ b. cond b (effect_on rule.effect walk) walk) hit
+-- behind a rule that decides, the walk is its effect on the walk before it
+decided_walk : (around : Around) (front : List Rule) (rule : Rule) (walk : Walk) → Decides around front rule walk
+    → walked around (front ++ rule ∷ []) walk ≡ effect_on rule.effect (walked around front walk)
+decided_walk around front rule walk d =
+    walked_append around front (rule ∷ []) walk
+    ∙ (walked_on around rule [] (walked around front walk) d.reached
+    ∙ takes around rule (walked around front walk) d.hit)
 
--- a walk goes on behind a rule that isn't quick
-goes_on : (rule : Rule) (walk : Walk) → walk.stop ≡ false → rule.effect.quick ≡ false → (effect_on rule.effect walk).stop ≡ false
-goes_on rule walk going slow = ap (λ b. b || rule.effect.quick) going ∙ slow
+-- one more rule in front of a list whose rules don't decide
+none_behind : (around : Around) (rule : Rule) (rules : List Rule) (walk : Walk) → walk.stop ≡ false
+    → NoneDecides around (rule ∷ rules) walk → NoneDecides around rules (walked_one around rule walk)
+none_behind around rule rules walk going none =
+    λ front back later e d.
+    let same : walked around (rule ∷ front) walk ≡ walked around front (walked_one around rule walk) = walked_on around rule front walk going in
+    none (rule ∷ front) back later (ap (λ rs. rule ∷ rs) e) (record {
+      decides = d.decides;
+      reached = ap (λ (w : Walk). w.stop) same ∙ d.reached;
+      hit = ap (hits_at around later) same ∙ d.hit;
+    })
 
-ends : (rule : Rule) (walk : Walk) → walk.stop ≡ false → rule.effect.quick ≡ true → (effect_on rule.effect walk).stop ≡ true
-ends rule walk going quick = ap (λ b. b || rule.effect.quick) going ∙ quick
+-- a rule that doesn't decide leaves the decision
+passed_last : (hit deciding : Bool) (around : Around) (rule : Rule) (walk : Walk)
+    → hits_at around rule walk ≡ hit → is_deciding rule.effect.action ≡ deciding
+    → ¬ ((hit ≡ true) × (deciding ≡ true)) → (walked_one around rule walk).last ≡ walk.last
+passed_last false deciding around rule walk is_hit is_decided none = ap (λ (w : Walk). w.last) (passes_over around rule walk is_hit)
+passed_last true false around rule walk is_hit is_decided none =
+    ap (λ (w : Walk). w.last) (takes around rule walk is_hit) ∙ rests_last rule.effect walk is_decided
+passed_last true true around rule walk is_hit is_decided none = absurd (none (refl, refl))
 
--- what last_decides says of the rules behind this one
-abbrev LastDecides : List Rule → Walk → Type 0
-LastDecides rules walk = walk.stop ≡ false → find (matches_quick walk.packet) rules ≡ None
-    → (walked rules walk).last ≡ decided_by (find (matches walk.packet) (reverse rules)) walk.last
+-- where no rule decides, the decision stays
+pub none_last : (around : Around) (rules : List Rule) (walk : Walk) → NoneDecides around rules walk → (walked around rules walk).last ≡ walk.last
+none_last around [] walk none = refl
+none_last around (rule ∷ rules) walk none =
+    elim walk.stop as (λ b. walk.stop ≡ b → (cond b walk (walked around rules (walked_one around rule walk))).last ≡ walk.last) [
+      | true ↦ (λ stopped. refl)
+      | false ↦ (λ going.
+          none_last around rules (walked_one around rule walk) (none_behind around rule rules walk going none)
+          ∙ passed_last (hits_at around rule walk) (is_deciding rule.effect.action) around rule walk refl refl
+          (λ both. none [] rules rule refl (record { decides = both.1; reached = going; hit = both.0 })))
+    ] refl
 
--- one more rule in front, by whether it matches and is quick
-last_at : (matched quick : Bool) (rule : Rule) (rules : List Rule) (walk : Walk)
-    → matches walk.packet rule ≡ matched → rule.effect.quick ≡ quick → walk.stop ≡ false
-    → cond (matched && quick) (Some rule) (find (matches_quick walk.packet) rules) ≡ None
-    → ((w : Walk) → LastDecides rules w)
-    → (walked rules (walked_one rule walk)).last ≡ decided_by (find (matches walk.packet) (reverse rules)) (decided_by (cond matched (Some rule) None) walk.last)
-last_at false quick rule rules walk is_matched is_quick going none rest =
-    ap (λ (w : Walk). (walked rules w).last) (passes_over rule walk is_matched) ∙ rest walk going none
-last_at true false rule rules walk is_matched is_quick going none rest =
-    ap (λ (w : Walk). (walked rules w).last) (takes rule walk is_matched) ∙ rest (effect_on rule.effect walk) (goes_on rule walk going is_quick) none
-last_at true true rule rules walk is_matched is_quick going none rest = cc
+-- a walk through a list is one through its back after one through its front
+pub parted : (around : Around) (front : List Rule) (rule : Rule) (back : List Rule) (walk : Walk)
+    → walked around (front ++ rule ∷ back) walk ≡ walked around back (walked around (front ++ rule ∷ []) walk)
+parted around front rule back walk =
+    ap (λ rs. walked around rs walk) (sym (append_assoc front (rule ∷ []) back)) ∙ walked_append around (front ++ rule ∷ []) back walk
 
--- without a quick match the last match decides, or what was decided before
-pub last_decides : (rules : List Rule) (walk : Walk) → LastDecides rules walk
-last_decides [] walk going none = refl
-last_decides (rule ∷ rules) walk going none =
-    ap (λ (w : Walk). w.last) (walked_on rule rules walk going)
-    ∙ (last_at (matches walk.packet rule) (rule.effect.quick) rule rules walk refl refl going none (last_decides rules)
-    ∙ sym (ap (λ rs. decided_by (find (matches walk.packet) rs) walk.last) (reverse-append (rule ∷ []) rules)
-    ∙ decided_push (matches walk.packet) (reverse rules) rule walk.last))
+-- a quick rule decides
+pub quick_walk : (around : Around) (front : List Rule) (rule : Rule) (back : List Rule) (walk : Walk)
+    → Decides around front rule walk → rule.effect.quick ≡ true
+    → walked around (front ++ rule ∷ back) walk ≡ walked around (front ++ rule ∷ []) walk
+quick_walk around front rule back walk d quick =
+    let end : Walk = walked around (front ++ rule ∷ []) walk in
+    let stopped : end.stop ≡ true =
+    ap (λ (w : Walk). w.stop) (decided_walk around front rule walk d)
+    ∙ (quick_stops rule.effect (walked around front walk) d.decides
+    ∙ (ap (λ b. b || rule.effect.quick) d.reached ∙ quick)) in
+    parted around front rule back walk ∙ walked_stopped around back end stopped
 
--- the same where a quick rule matches
-abbrev QuickDecides : List Rule → Walk → Rule → Type 0
-QuickDecides rules walk first = walk.stop ≡ false → find (matches_quick walk.packet) rules ≡ Some first → (walked rules walk).last ≡ decision_of first.effect
+-- what a rule that decides has decided
+pub decided_last : (around : Around) (front : List Rule) (rule : Rule) (walk : Walk) → Decides around front rule walk
+    → (walked around (front ++ rule ∷ []) walk).last ≡ decision_of rule.effect
+decided_last around front rule walk d =
+    ap (λ (w : Walk). w.last) (decided_walk around front rule walk d) ∙ decides_last rule.effect (walked around front walk) d.decides
 
-quick_at : (matched quick : Bool) (rule : Rule) (rules : List Rule) (walk : Walk) (first : Rule)
-    → matches walk.packet rule ≡ matched → rule.effect.quick ≡ quick → walk.stop ≡ false
-    → cond (matched && quick) (Some rule) (find (matches_quick walk.packet) rules) ≡ Some first
-    → ((w : Walk) → QuickDecides rules w first)
-    → (walked rules (walked_one rule walk)).last ≡ decision_of first.effect
-quick_at false quick rule rules walk first is_matched is_quick going found rest =
-    ap (λ (w : Walk). (walked rules w).last) (passes_over rule walk is_matched) ∙ rest walk going found
-quick_at true false rule rules walk first is_matched is_quick going found rest =
-    ap (λ (w : Walk). (walked rules w).last) (takes rule walk is_matched) ∙ rest (effect_on rule.effect walk) (goes_on rule walk going is_quick) found
-quick_at true true rule rules walk first is_matched is_quick going found rest =
-    let same : rule ≡ first = cc in
-    ap (λ (w : Walk). (walked rules w).last) (takes rule walk is_matched)
-    ∙ (ap (λ (w : Walk). w.last) (walked_stopped rules (effect_on rule.effect walk) (ends rule walk going is_quick))
-    ∙ ap (λ (r : Rule). decision_of r.effect) same)
-
--- the first quick match decides
-pub quick_decides : (rules : List Rule) (walk : Walk) (first : Rule) → QuickDecides rules walk first
-quick_decides [] walk first going found = cc
-quick_decides (rule ∷ rules) walk first going found =
-    ap (λ (w : Walk). w.last) (walked_on rule rules walk going)
-    ∙ quick_at (matches walk.packet rule) (rule.effect.quick) rule rules walk first refl refl going found (λ w. quick_decides rules w first)
-
-past_at : (matched : Bool) (rule : Rule) (rules : List Rule) (walk : Walk) → matches walk.packet rule ≡ matched → walk.stop ≡ false
-    → cond matched (Some rule) (find (matches walk.packet) rules) ≡ None
-    → (find (matches walk.packet) rules ≡ None → walked rules walk ≡ walk) → walked rules (walked_one rule walk) ≡ walk
-past_at false rule rules walk is_matched going none rest = ap (walked rules) (passes_over rule walk is_matched) ∙ rest none
-past_at true rule rules walk is_matched going none rest = cc
-
--- a walk past rules that don't match stays as it is
-pub walked_past : (rules : List Rule) (walk : Walk) → walk.stop ≡ false → find (matches walk.packet) rules ≡ None → walked rules walk ≡ walk
-walked_past [] walk going none = refl
-walked_past (rule ∷ rules) walk going none =
-    walked_on rule rules walk going ∙ past_at (matches walk.packet rule) rule rules walk refl going none (walked_past rules walk going)
-
--- an answer is its decision
-pub answered : {a b : Decision} → a ≡ b → let x : Answer = record { decision = a } in let y : Answer = record { decision = b } in x ≡ y
-answered e = ap (λ (d : Decision). let x : Answer = record { decision = d } in x) e
+-- the last one that hits decides
+pub last_walk : (around : Around) (front : List Rule) (rule : Rule) (back : List Rule) (walk : Walk)
+    → Decides around front rule walk → NoneDecides around back (walked around (front ++ rule ∷ []) walk)
+    → (walked around back (walked around (front ++ rule ∷ []) walk)).last ≡ decision_of rule.effect
+last_walk around front rule back walk d none =
+    none_last around back (walked around (front ++ rule ∷ []) walk) none ∙ decided_last around front rule walk d

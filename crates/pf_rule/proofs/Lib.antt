@@ -1,4 +1,4 @@
 pub mod Decisions
-pub mod Examples
+pub mod Effects
+pub mod Founds
 pub mod Walks
-pub mod Words

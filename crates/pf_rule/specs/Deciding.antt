@@ -1,23 +1,20 @@
--- The rule that decides, in the words of pf.conf(5).
-use Rattle.std.specs.Prelude.{Bool, ◌&&◌}
-use Rattle.pf_rule.specs.Criteria.{criteria_hold}
-use Rattle.pf_rule.specs.Effect.{decision_of}
-use Rattle.pf_rule.specs.Opening.{pass_no_state}
-use Rattle.pf_rule.specs.declared.packet.Packet.{Packet}
+-- The rule that decides, in the words of pf.conf(5): the last pass or block rule that matches.
+-- A rule is tested with the tag that the packet has when the rule is reached.
+use Rattle.std.specs.Prelude.{◌≡◌, List, ◌∷◌, ◌++◌, false, IsTrue}
+use Rattle.pf_rule.specs.Around.{Around}
+use Rattle.pf_rule.specs.Effect.{is_deciding}
+use Rattle.pf_rule.specs.Hit.{hits_at}
+use Rattle.pf_rule.specs.Walk.{walked}
 use Rattle.pf_rule.specs.declared.rule.Rule.{Rule}
-use Rattle.pf_rule.specs.declared.walk.Answer.{Answer}
+use Rattle.pf_rule.specs.declared.walk.Walk.{Walk}
 
--- the rule matches the packet
-abbrev pub matches : Packet → Rule → Bool
-matches packet rule = criteria_hold rule.criteria packet
+-- behind these rules the pass or block rule is reached, and it hits
+pub record Decides (around : Around) (front : List Rule) (rule : Rule) (walk : Walk) : Type 0 where
+  pub decides : IsTrue (is_deciding rule.effect.action)
+  pub reached : (walked around front walk).stop ≡ false
+  pub hit : IsTrue (hits_at around rule (walked around front walk))
 
--- the rule matches the packet and is quick
-abbrev pub matches_quick : Packet → Rule → Bool
-matches_quick packet rule = matches packet rule && rule.effect.quick
-
--- the answer where this rule decides
-abbrev pub answer_by : Rule → Answer
-answer_by rule = record { decision = decision_of rule.effect }
-
-abbrev pub pass_without_state : Answer
-pass_without_state = record { decision = pass_no_state }
+-- wherever the list is parted before a rule, that rule doesn't decide
+abbrev pub NoneDecides : Around → List Rule → Walk → Type 0
+NoneDecides around rules walk =
+    (front back : List Rule) (rule : Rule) → rules ≡ front ++ rule ∷ back → ¬ (Decides around front rule walk)

@@ -1,9 +1,10 @@
 pub mod Answer
-pub mod AnswerText
+pub mod Around
 pub mod Criteria
 pub mod Deciding
 pub mod Effect
 pub mod Hit
+pub mod Laying
 pub mod Opening
-pub mod Record
+pub mod Probe
 pub mod Walk

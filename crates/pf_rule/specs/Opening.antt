@@ -1,14 +1,52 @@
 -- A walk before its first rule.
-use Rattle.std.specs.Prelude.{false}
+use Rattle.std.specs.Prelude.{false, None}
+use Rattle.pf_rule.specs.declared.effect.Action.TheVariants.{Pass}
 use Rattle.pf_rule.specs.declared.packet.Packet.{Packet}
-use Rattle.pf_rule.specs.declared.rule.Action.TheVariants.{Pass}
-use Rattle.pf_rule.specs.declared.rule.StateKind.TheVariants as state
+use Rattle.pf_rule.specs.declared.params.Params.{Params}
+use Rattle.pf_rule.specs.declared.state.StateKind.TheVariants as state
+use Rattle.pf_rule.specs.declared.state.StateOptions.{StateOptions}
 use Rattle.pf_rule.specs.declared.walk.Decision.{Decision}
 use Rattle.pf_rule.specs.declared.walk.Walk.{Walk}
 
--- without a rule that matches, a packet passes and makes no state (pf.conf(5), "pass")
-abbrev pub pass_no_state : Decision
-pass_no_state = record { action = Pass; state = state.None }
+-- no parameter is set
+abbrev pub no_params : Params
+no_params = record {
+  queue = None;
+  prio = None;
+  tos = None;
+  scrub = record { no_df = false; random_id = false; reassemble_tcp = false; min_ttl = None; max_mss = None };
+  log = record { on = false; all = false; matches = false; user = false; to = None };
+  allow_opts = false;
+}
 
+-- no option is given
+abbrev pub no_options : StateOptions
+no_options = record {
+  max = None;
+  source_track = None;
+  max_src_nodes = None;
+  max_src_states = None;
+  max_src_conn = None;
+  max_src_conn_rate = None;
+  overload = None;
+  sloppy = false;
+  no_sync = false;
+  pflow = false;
+  if_bound = false;
+  floating = false;
+}
+
+-- without a pass or block rule that hits, a packet passes and makes no state (pf.conf(5), "pass")
+abbrev pub pass_no_state : Decision
+pass_no_state = record { action = Pass; state = state.None; options = no_options; params = no_params; label = None }
+
+-- the packet has the tag of its record, and no rule has hit
 abbrev pub opening_walk : Packet → Walk
-opening_walk packet = record { packet = packet; last = pass_no_state; matched = false; stop = false }
+opening_walk packet = record {
+  packet = packet;
+  tag = packet.tag;
+  params = no_params;
+  last = pass_no_state;
+  matched = false;
+  stop = false;
+}

@@ -1,26 +1,37 @@
-//! Rules, packets and what one rule does with a packet: the record of a packet, the test of a rule,
-//! its effect on a walk, the walk over a list of rules, and the text of an answer.
-//! It stands on pf_base. The layers above load lists of rules, ask [`evaluate`] for a packet's answer
-//! and write the answer by [`put_answer`].
+//! Rules, packets and what one rule does with a packet: the tests of a rule, its effect on a walk, the
+//! answer of a walk, and what an evaluator sees of a walk.
+//! It stands on pf_base, pf_addr and pf_ops. The layers above make rules, walk through them by `Probe`,
+//! and read and write packets and answers as text.
 #![tactic(auto)]
 
+pub mod applying;
+pub mod criteria;
+mod criterion;
+pub mod effect;
 pub mod evaluation;
+pub mod members;
 pub mod packet;
-pub mod printing;
-pub mod record;
+pub mod params;
+pub mod probe;
 pub mod reply;
 pub mod rule;
+pub mod state;
 pub mod testing;
 pub mod walk;
 
+pub use applying::{apply, effect_twice_is_once};
+pub use criteria::{AddrSet, AddrTest, Criteria, IfTest, TagTest};
+pub use effect::{Action, BlockKind, Call, Effect};
 pub use evaluation::{evaluate, last_matching_rule_decides};
+pub use members::{Members, NoTables};
 pub use packet::{Direction, Packet};
-pub use printing::put_answer;
-pub use record::{Field, PacketFault, protocol_of, read_packet};
+pub use params::{Log, Params, Prios, Queues, Scrub};
+pub use probe::Probe;
 pub use reply::answer;
-pub use rule::{Action, BlockKind, Criteria, Effect, Rule, StateKind};
+pub use rule::Rule;
+pub use state::{Flush, Overload, Rate, StateKind, StateOptions, Track};
 pub use testing::{Tested, hit};
-pub use walk::{Answer, Decision, Walk, apply, effect_twice_is_once};
+pub use walk::{Answer, Decision, Marks, Walk};
 
 #[cfg(test)]
 mod tests;

@@ -1,11 +1,18 @@
 //! The test of one rule.
 ghost use Rattle.std.specs.Prelude.{◌≡◌, ◌+◌, ◌↔◌, ℕ, Some, None, IsTrue, false};
-ghost use Rattle.pf_rule.specs.Criteria.{direction_holds, proto_holds};
-ghost use Rattle.pf_rule.specs.Hit.{hits, failing_field};
+ghost use Rattle.pf_rule.specs.Around.{around_by};
+ghost use Rattle.pf_rule.specs.Hit.{all_hold, failing_field, fails_at, hits_at, other_tests, tested_at};
 
+use crate::criteria::Criteria;
+use crate::criterion::{
+    address_holds, direction_holds, family_holds, flags_hold, icmp_holds, interface_holds,
+    owner_holds, port_holds, same_number, tag_passes,
+};
+use crate::members::Members;
 use crate::packet::Packet;
-use crate::rule::{Criteria, Rule};
+use crate::rule::Rule;
 use crate::walk::Walk;
+use pf_addr::Ifaces;
 use pf_base::Steps;
 
 /// What the test of a rule finds.
@@ -20,42 +27,98 @@ pub enum Tested {
     Other,
 }
 
-// The skip fields that a rule can test.
+// The numbers of the skip fields.
+const INTERFACE: u8 = 0;
+
 const DIRECTION: u8 = 1;
+
+const FAMILY: u8 = 2;
 
 const PROTOCOL: u8 = 3;
 
-/// Tests a rule at a walk, which is counted.
-pub fn hit<L>(rule: &Rule, walk: &Walk, steps: &mut Steps<L>) -> Tested
-    ensures hit { (result ≡ Tested.Hit) ↔ IsTrue (hits rule.now walk.now) }
-    ensures field { (field : ℕ) → (result ≡ Tested.Field field) ↔ (failing_field rule.now walk.now ≡ Some field) }
-    ensures other { (result ≡ Tested.Other) ↔ ((failing_field rule.now walk.now ≡ None) × (hits rule.now walk.now ≡ false)) }
+const SOURCE: u8 = 4;
+
+const SOURCE_PORT: u8 = 5;
+
+const TARGET: u8 = 6;
+
+const TARGET_PORT: u8 = 7;
+
+/// Tests a rule at a walk, which is counted (pf.conf(5), PARAMETERS).
+#[tactic(auto, using(crate::proofs::Founds::hits_failing, crate::proofs::Founds::hits_others, crate::proofs::Founds::tested_hit, crate::proofs::Founds::tested_missed))]
+pub fn hit<M: Members, I: Ifaces, L>(
+    rule: &Rule,
+    walk: &Walk,
+    members: &M,
+    ifaces: &I,
+    steps: &mut Steps<L>,
+) -> Tested
+    ensures hit { let around = around_by (M.member members.now) (I.in_group ifaces.now) (I.dynamic ifaces.now) in
+        (result ≡ Tested.Hit) ↔ IsTrue (hits_at around rule.now walk.now) }
+    ensures field { let around = around_by (M.member members.now) (I.in_group ifaces.now) (I.dynamic ifaces.now) in
+        (field : ℕ) → (result ≡ Tested.Field field) ↔ (fails_at around rule.now walk.now ≡ Some field) }
+    ensures other { let around = around_by (M.member members.now) (I.in_group ifaces.now) (I.dynamic ifaces.now) in
+        (result ≡ Tested.Other) ↔ ((fails_at around rule.now walk.now ≡ None) × (hits_at around rule.now walk.now ≡ false)) }
+    ensures value { let around = around_by (M.member members.now) (I.in_group ifaces.now) (I.dynamic ifaces.now) in
+        result ≡ tested_at around rule.now walk.now }
     ensures counted { steps.new.count ≡ steps.old.count + 1 }
 {
     steps.tick();
-    if !meets_direction(&rule.criteria, &walk.packet) {
-        return Tested::Field(DIRECTION);
-    }
-    if !meets_proto(&rule.criteria, &walk.packet) {
-        return Tested::Field(PROTOCOL);
-    }
-    Tested::Hit
-}
-
-fn meets_direction(criteria: &Criteria, packet: &Packet) -> bool
-    ensures { result ≡ direction_holds criteria.now packet.now }
-{
-    match criteria.direction {
-        None => true,
-        Some(direction) => direction == packet.direction,
+    match failing_field(&rule.criteria, &walk.packet, members, ifaces) {
+        Some(field) => Tested::Field(field),
+        None if others_hold(&rule.criteria, walk) => Tested::Hit,
+        None => Tested::Other,
     }
 }
 
-fn meets_proto(criteria: &Criteria, packet: &Packet) -> bool
-    ensures { result ≡ proto_holds criteria.now packet.now }
+// The number of the first skip field whose test fails.
+#[tactic(auto, using(crate::proofs::Founds::passed, crate::proofs::Founds::failed), unfolding(crate::specs::Hit::failing_field))]
+fn failing_field<M: Members, I: Ifaces>(
+    criteria: &Criteria,
+    packet: &Packet,
+    members: &M,
+    ifaces: &I,
+) -> Option<u8>
+    ensures { let around = around_by (M.member members.now) (I.in_group ifaces.now) (I.dynamic ifaces.now) in
+        result ≡ failing_field around criteria.now packet.now }
 {
-    match criteria.proto {
-        None => true,
-        Some(proto) => proto == packet.proto,
+    if !interface_holds(&criteria.iface, &packet.iface, ifaces) {
+        return Some(INTERFACE);
     }
+    if !direction_holds(criteria, packet) {
+        return Some(DIRECTION);
+    }
+    if !family_holds(criteria, packet) {
+        return Some(FAMILY);
+    }
+    if !same_number(criteria.proto, packet.proto) {
+        return Some(PROTOCOL);
+    }
+    if !address_holds(&criteria.source, &packet.source, members, ifaces) {
+        return Some(SOURCE);
+    }
+    if !port_holds(&criteria.source_port, packet, packet.source_port) {
+        return Some(SOURCE_PORT);
+    }
+    if !address_holds(&criteria.target, &packet.target, members, ifaces) {
+        return Some(TARGET);
+    }
+    if !port_holds(&criteria.target_port, packet, packet.target_port) {
+        return Some(TARGET_PORT);
+    }
+    None
+}
+
+// The tests hold that aren't of skip fields.
+fn others_hold(criteria: &Criteria, walk: &Walk) -> bool
+    ensures { result ≡ all_hold (other_tests criteria.now walk.now.packet walk.now.tag) }
+{
+    let packet = &walk.packet;
+    owner_holds(&criteria.user, packet, packet.user)
+        && owner_holds(&criteria.group, packet, packet.group)
+        && flags_hold(criteria, packet)
+        && icmp_holds(criteria, packet)
+        && same_number(criteria.tos, packet.tos)
+        && same_number(criteria.prio, packet.prio)
+        && tag_passes(&criteria.tagged, &walk.tag)
 }

@@ -1,18 +1,22 @@
-//! A packet's way through a list of rules, and what one rule does to it.
+//! A packet's way through a list of rules.
 ghost use Rattle.std.specs.Prelude.{◌≡◌};
-ghost use Rattle.pf_rule.specs.declared.rule.Effect.{Effect as RuleEffect};
-ghost use Rattle.pf_rule.specs.declared.walk.Walk.{Walk as PacketWalk};
-ghost use Rattle.pf_rule.specs.Effect.{effect_on};
 ghost use Rattle.pf_rule.specs.Opening.{opening_walk};
 
+use crate::effect::Action;
 use crate::packet::Packet;
-use crate::rule::{Action, Rule, StateKind};
+use crate::params::Params;
+use crate::state::{StateKind, StateOptions};
+use pf_base::Name;
 
 /// A packet on its way through the rules.
 #[derive(Clone, Copy, Debug, PartialEq, Eq)]
 pub struct Walk {
     pub packet: Packet,
-    /// What the last rule that matched decided.
+    /// The tag that it has at the moment.
+    pub tag: Option<Name>,
+    /// What `match` rules have set so far.
+    pub params: Params,
+    /// What the last `pass` or `block` rule that matched decided.
     pub last: Decision,
     /// A `pass` or `block` rule has matched.
     pub matched: bool,
@@ -25,45 +29,45 @@ pub struct Walk {
 pub struct Decision {
     pub action: Action,
     pub state: StateKind,
+    pub options: StateOptions,
+    pub params: Params,
+    pub label: Option<Name>,
 }
 
-/// What a packet is answered.
+/// What a packet is answered: on a skipped interface `skip`, else its tag and the decision.
 #[derive(Clone, Copy, Debug, PartialEq, Eq)]
 pub struct Answer {
+    pub skip: bool,
+    pub tag: Option<Name>,
     pub decision: Decision,
 }
 
+/// The two marks of a walk.
+#[derive(Clone, Copy, Debug, PartialEq, Eq)]
+pub struct Marks {
+    pub matched: bool,
+    pub stop: bool,
+}
+
 impl Walk {
-    /// The walk before the first rule: the packet passes and makes no state, and no rule has matched.
+    /// The walk before the first rule: the packet passes and makes no state, has the tag of its record
+    /// and no parameters, and no rule has matched.
     pub fn begin(packet: &Packet) -> Walk
         ensures { result ≡ opening_walk packet.now }
     {
         Walk {
             packet: *packet,
+            tag: packet.tag,
+            params: Params::NONE,
             last: Decision {
                 action: Action::Pass,
                 state: StateKind::None,
+                options: StateOptions::NONE,
+                params: Params::NONE,
+                label: None,
             },
             matched: false,
             stop: false,
         }
     }
 }
-
-/// Does what a `pass` or `block` rule that matches does: it decides until a later rule does, and
-/// where it is `quick` it ends the walk.
-pub fn apply(walk: &mut Walk, rule: &Rule)
-    ensures { walk.new ≡ effect_on rule.now.effect walk.old }
-{
-    walk.last = Decision {
-        action: rule.effect.action,
-        state: rule.effect.state,
-    };
-    walk.matched = true;
-    walk.stop |= rule.effect.quick;
-}
-
-/// A law: on every walk, a rule's effect twice is its effect once.
-pub fn effect_twice_is_once()
-    ensures { (effect : RuleEffect) (walk : PacketWalk) → effect_on effect (effect_on effect walk) ≡ effect_on effect walk }
-{}

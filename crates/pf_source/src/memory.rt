@@ -54,10 +54,13 @@ pub struct MemoryFiles {
 }
 
 impl MemoryFiles {
+    ghost use Rattle.pf_source.specs.Calls.{files_calls};
+
     /// Files with this content, of which the reads with these numbers, from 1, are to fail.
     /// A later file of a name that stands before is never read.
     pub fn new(alloc: Global, content: Vec<HeldFile>, fail: Vec<u64>) -> MemoryFiles
-        ensures { ⟦<MemoryFiles as Files>⟧.tells result ≡ record { held = Some (record { files = content.items; sure = false }); steady = is_none_at_all fail.items; faults = 0; failed = Some [] } }
+        ensures told { ⟦<MemoryFiles as Files>⟧.tells result ≡ record { held = Some (record { files = content.items; sure = false }); steady = is_none_at_all fail.items; faults = 0; failed = Some [] } }
+        ensures calls { files_calls result ≡ record { made = 0; fail = fail.items } }
     {
         MemoryFiles {
             content: List::of(content),
@@ -78,6 +81,7 @@ impl MemoryFiles {
     // Counts a failed read, with its name.
     fn fail_read(&mut self, alloc: Global, name: &[u8]) -> Result<Text, FilesFault>
         ensures same { (self.new.content ≡ self.old.content) × (self.new.fail ≡ self.old.fail) }
+        ensures calls { self.new.calls ≡ self.old.calls }
         ensures counted { CountsFailure name.now result self.old.faults self.new.faults self.old.failed.items self.new.failed.items }
     {
         let name = Vec::from_slice(alloc, name)?;
@@ -88,9 +92,26 @@ impl MemoryFiles {
 }
 
 impl Files for MemoryFiles {
-    ghost tells = { λ files. record { held = Some (record { files = files.content; sure = false }); steady = is_none_at_all files.fail; faults = files.faults; failed = Some files.failed.items } };
+    ghost use Rattle.std.specs.Prelude.{◌≡◌, ◌≤◌, length, IfOk, Some};
+    ghost use Rattle.pf_source.specs.Causes.{RoseBy};
+    ghost use Rattle.pf_source.specs.Told.{Told, file_of};
+    ghost use Rattle.pf_source.specs.Files.{AddsFailed, FailsOnlyAbsent, IfTooLarge, StaysHeld, failures};
+    ghost use Rattle.pf_source.specs.Calls.{FailsWhere, and_one, files_calls, files_told, is_read_to_fail};
 
-    fn read(&mut self, alloc: Global, name: &Text, limit: u64) -> Result<Text, FilesFault> {
+    ghost tells = { files_told };
+
+    /// Its call fails exactly where its number is one of those that are to fail, or where the name is absent.
+    fn read(&mut self, alloc: Global, name: &Text, limit: u64) -> Result<Text, FilesFault>
+        ensures held { StaysHeld (files_told self.old) (files_told self.new) }
+        ensures content { IfOk result (λ text. Told (files_told self.old).held (λ held. file_of held name.now ≡ Some text)) }
+        ensures within { IfOk result (λ text. length text ≤ limit) }
+        ensures too_large { IfTooLarge (files_told self.old) name.now limit result }
+        ensures faults { RoseBy (failures result) (files_told self.old).faults (files_told self.new).faults }
+        ensures failed { AddsFailed name.now result (files_told self.old).failed (files_told self.new).failed }
+        ensures steady { FailsOnlyAbsent (files_told self.old) name.now result }
+        ensures counted { files_calls self.new ≡ and_one (files_calls self.old) }
+        ensures fails { FailsWhere (is_read_to_fail self.old name.now) result }
+    {
         self.calls = self.calls.saturating_add(1);
         let fails = is_failing(self.fail.items(), self.calls);
         let found = if fails {
@@ -117,9 +138,12 @@ pub struct MemorySource {
 }
 
 impl MemorySource {
+    ghost use Rattle.pf_source.specs.Calls.{source_calls};
+
     /// An input with this content, of which the reads with these numbers, from 1, are to fail.
     pub fn new(content: Text, fail: Vec<u64>) -> MemorySource
-        ensures { ⟦<MemorySource as Source>⟧.tells result ≡ record { left = Some content; given = 0; faults = 0 } }
+        ensures told { ⟦<MemorySource as Source>⟧.tells result ≡ record { left = Some content; given = 0; faults = 0 } }
+        ensures calls { source_calls result ≡ record { made = 0; fail = fail.items } }
     {
         MemorySource {
             content,
@@ -132,9 +156,25 @@ impl MemorySource {
 }
 
 impl Source for MemorySource {
-    ghost tells = { λ source. record { left = Some (drop source.at source.content); given = source.at; faults = source.faults } };
+    ghost use Rattle.std.specs.Prelude.{◌≡◌, ◌+◌, ◌<◌, ◌≤◌, length, take, IfOk, OnErr};
+    ghost use Rattle.std.specs.Io.KnownBytes.{Consumes, IsAtEnd, Keeps};
+    ghost use Rattle.pf_source.specs.Causes.{RoseBy};
+    ghost use Rattle.pf_source.specs.Streams.{count_given, read_failures};
+    ghost use Rattle.pf_source.specs.Calls.{and_one, is_failed, is_next_to_fail, source_calls, source_told};
 
-    fn read(&mut self, buf: &mut [u8]) -> Result<usize, Failed> {
+    ghost tells = { source_told };
+
+    /// Its call fails exactly where its number is one of those that are to fail.
+    fn read(&mut self, buf: &mut [u8]) -> Result<usize, Failed>
+        ensures within { IfOk result (λ n. n ≤ length buf.old) }
+        ensures bytes { IfOk result (λ n. Consumes (source_told self.old).left (source_told self.new).left (take n buf.new)) }
+        ensures end { IfOk result (λ n. n ≡ 0 → 0 < length buf.old → IsAtEnd (source_told self.new).left) }
+        ensures given { (source_told self.new).given ≡ (source_told self.old).given + count_given result }
+        ensures err { OnErr result (Keeps (source_told self.old).left (source_told self.new).left) }
+        ensures faults { RoseBy (read_failures result) (source_told self.old).faults (source_told self.new).faults }
+        ensures counted { source_calls self.new ≡ and_one (source_calls self.old) }
+        ensures fails { is_failed result ≡ is_next_to_fail (source_calls self.old) }
+    {
         self.calls = self.calls.saturating_add(1);
         if is_failing(self.fail.items(), self.calls) {
             self.faults = self.faults.saturating_add(1);
@@ -175,9 +215,12 @@ pub struct MemorySink {
 }
 
 impl MemorySink {
+    ghost use Rattle.pf_source.specs.Calls.{sink_calls};
+
     /// An empty output, of which these writes are to fail.
     pub fn new(alloc: Global, fail: Vec<FailedWrite>) -> MemorySink
-        ensures { ⟦<MemorySink as Sink>⟧.tells result ≡ record { written = Some []; faults = 0 } }
+        ensures told { ⟦<MemorySink as Sink>⟧.tells result ≡ record { written = Some []; faults = 0 } }
+        ensures calls { sink_calls result ≡ record { made = 0; fail = fail.items } }
     {
         MemorySink {
             written: Vec::new(alloc),
@@ -208,9 +251,24 @@ impl MemorySink {
 }
 
 impl Sink for MemorySink {
-    ghost tells = { λ sink. record { written = Some sink.written.items; faults = sink.faults } };
+    ghost use Rattle.std.specs.Prelude.{◌≡◌, OnOk};
+    ghost use Rattle.std.specs.Io.KnownBytes.{Appends};
+    ghost use Rattle.pf_source.specs.Causes.{RoseBy};
+    ghost use Rattle.pf_source.specs.Streams.{IfCutShort, IfNotWritten, write_failures};
+    ghost use Rattle.pf_source.specs.Calls.{WritesUnless, and_one, next_failing, sink_calls, sink_told};
 
-    fn write(&mut self, piece: &[u8]) -> Result<(), SinkFault> {
+    ghost tells = { sink_told };
+
+    /// Its call fails exactly where its number is one of those that are to fail, and takes as many bytes as that
+    /// one still takes, at most the piece. Of two failing writes of one number the first counts.
+    fn write(&mut self, piece: &[u8]) -> Result<(), SinkFault>
+        ensures ok { OnOk result (Appends (sink_told self.old).written (sink_told self.new).written piece.now) }
+        ensures failed { IfCutShort result (sink_told self.old).written (sink_told self.new).written piece.now }
+        ensures no_memory { IfNotWritten result (sink_told self.old).written (sink_told self.new).written }
+        ensures faults { RoseBy (write_failures result) (sink_told self.old).faults (sink_told self.new).faults }
+        ensures counted { sink_calls self.new ≡ and_one (sink_calls self.old) }
+        ensures fails { WritesUnless (next_failing (sink_calls self.old)) piece.now (sink_told self.old).written (sink_told self.new).written result }
+    {
         self.calls = self.calls.saturating_add(1);
         let Some(taken) = self.cut_of(self.calls) else {
             self.written.extend_from_slice(piece)?;

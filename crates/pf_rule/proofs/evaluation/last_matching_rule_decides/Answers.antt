@@ -1,18 +1,29 @@
-use Rattle.std.proofs.Common.{refl, ap, ◌∙◌}
-use Rattle.pf_rule.specs.Answer.{answer_of}
-use Rattle.pf_rule.specs.Opening.{opening_walk, pass_no_state}
+use Rattle.std.proofs.Common.{ap, ◌∙◌}
+use Rattle.pf_rule.specs.Answer.{answer_of, decision_over}
+use Rattle.pf_rule.specs.Opening.{opening_walk}
+use Rattle.pf_rule.specs.declared.walk.Decision.{Decision}
 use Rattle.pf_rule.specs.declared.walk.Walk.{Walk}
-use Rattle.pf_rule.proofs.Decisions.{decided_by, last_decides, quick_decides, walked_past, answered}
+use Rattle.pf_rule.proofs.Decisions.{decided_last, last_walk, none_last, parted, quick_walk}
+use Rattle.pf_rule.specs.Walk.{walked}
+use Rattle.std.specs.Prelude.{[], ◌∷◌, ◌++◌}
 use Rattle.pf_rule.proofs.evaluation.last_matching_rule_decides.Goals as goal
 
 pub returns-clause-quick : goal.returns-clause-quick
 unfolding answer_of
-returns-clause-quick c = λ rules packet rule found. answered (quick_decides rules (opening_walk packet) rule refl found)
+returns-clause-quick c = λ around packet front back rule d quick.
+    let end : Walk = walked around (front ++ rule ∷ []) (opening_walk packet) in
+    ap (λ (w : Walk). decision_over w.last w.params) (quick_walk around front rule back (opening_walk packet) d quick)
+    ∙ ap (λ (d : Decision). decision_over d end.params) (decided_last around front rule (opening_walk packet) d)
 
 pub returns-clause-last : goal.returns-clause-last
 unfolding answer_of
-returns-clause-last c = λ rules packet rule none found. answered (last_decides rules (opening_walk packet) refl none ∙ ap (λ o. decided_by o pass_no_state) found)
+returns-clause-last c = λ around packet front back rule d none.
+    let end : Walk = walked around back (walked around (front ++ rule ∷ []) (opening_walk packet)) in
+    ap (λ (w : Walk). decision_over w.last w.params) (parted around front rule back (opening_walk packet))
+    ∙ ap (λ (d : Decision). decision_over d end.params) (last_walk around front rule back (opening_walk packet) d none)
 
 pub returns-clause-none : goal.returns-clause-none
 unfolding answer_of
-returns-clause-none c = λ rules packet none. answered (ap (λ (w : Walk). w.last) (walked_past rules (opening_walk packet) refl none))
+returns-clause-none c = λ around packet rules none.
+    let end : Walk = walked around rules (opening_walk packet) in
+    ap (λ (d : Decision). decision_over d end.params) (none_last around rules (opening_walk packet) none)

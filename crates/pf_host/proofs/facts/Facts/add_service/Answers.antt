@@ -1,11 +1,10 @@
-use Rattle.std.proofs.Common.{◌≡◌, ◌≤◌, ℕ, Bool, List, sym, ◌∙◌, arith}
+use Rattle.std.proofs.Common.{◌≡◌, ℕ, Bool, List, sym, ◌∙◌}
 use Rattle.pf_host.specs.declared.kind.Kind.TheVariants.{Service}
 use Rattle.pf_host.specs.Line.{Line, lines_about}
 use Rattle.pf_host.specs.Meaning.{AreSaid, SaysNumber, is_named, most_port}
 use Rattle.pf_host.specs.Rows.{has_row}
 use Rattle.pf_host.specs.declared.facts.Facts.{Facts}
 use Rattle.pf_host.proofs.Causes.{service_bad, service_sound, service_twice}
-use Rattle.pf_host.proofs.Lines.{decimal_at_most}
 use Rattle.pf_host.proofs.Pairs.{zip_names}
 use Rattle.pf_host.proofs.Said.{service_said}
 use Rattle.pf_host.proofs.facts.Facts.add_service.Goals as goal
@@ -18,13 +17,10 @@ pub returns-then-has : goal.returns-then-has
 returns-then-has c before said = service_twice before c.args.name c.args.word.now (named before c.args.self.now c.args.name _ said (sym c.has.ensures ∙ c.if-has.true))
 
 pub returns-in_default : goal.returns-in_default
-returns-in_default c before said = service_bad before c.args.name c.args.word.now (named before c.args.self.now c.args.name _ said (sym c.has.ensures ∙ c.if-has.false)) (sym c.in_default.ensures)
+returns-in_default c before said = service_bad before c.args.name c.args.word.now (named before c.args.self.now c.args.name _ said (sym c.has.ensures ∙ c.if-has.false)) (sym c.in_default.ensures.value)
 
 pub returns : goal.returns
 returns c before said = record {
-  sound = service_sound before c.args.name c.args.word.now c.in-Some.number (named before c.args.self.now c.args.name _ said (sym c.has.ensures ∙ c.if-has.false)) (sym c.in-Some.ensures);
-  said = service_said before c.args.self.now c.args.name c.args.word.now c.in-Some.number c.push.new.self said (sym c.in-Some.ensures) c.in_ok-push.ensures.ok;
+  sound = service_sound before c.args.name c.args.word.now c.in-Some.number (named before c.args.self.now c.args.name _ said (sym c.has.ensures ∙ c.if-has.false)) (sym c.in-Some.ensures.value);
+  said = service_said before c.args.self.now c.args.name c.args.word.now c.in-Some.number c.push.new.self said (sym c.in-Some.ensures.value) c.in_ok-push.ensures.ok;
 }
-
-pub overflow_cast-number : goal.overflow_cast-number
-overflow_cast-number c = let most : c.in-Some.number ≤ 65535 = decimal_at_most most_port c.args.word.now c.in-Some.number (sym c.in-Some.ensures) in omega arith

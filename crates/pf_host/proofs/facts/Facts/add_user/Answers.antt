@@ -17,10 +17,10 @@ pub returns-then-has : goal.returns-then-has
 returns-then-has c before said = user_twice before c.args.name c.args.word.now (named before c.args.self.now c.args.name _ said (sym c.has.ensures ∙ c.if-has.true))
 
 pub returns-in_default : goal.returns-in_default
-returns-in_default c before said = user_bad before c.args.name c.args.word.now (named before c.args.self.now c.args.name _ said (sym c.has.ensures ∙ c.if-has.false)) (sym c.in_default.ensures)
+returns-in_default c before said = user_bad before c.args.name c.args.word.now (named before c.args.self.now c.args.name _ said (sym c.has.ensures ∙ c.if-has.false)) (sym c.in_default.ensures.value)
 
 pub returns : goal.returns
 returns c before said = record {
-  sound = user_sound before c.args.name c.args.word.now c.in-Some.number (named before c.args.self.now c.args.name _ said (sym c.has.ensures ∙ c.if-has.false)) (sym c.in-Some.ensures);
-  said = user_said before c.args.self.now c.args.name c.args.word.now c.in-Some.number c.push.new.self said (sym c.in-Some.ensures) c.in_ok-push.ensures.ok;
+  sound = user_sound before c.args.name c.args.word.now c.in-Some.number (named before c.args.self.now c.args.name _ said (sym c.has.ensures ∙ c.if-has.false)) (sym c.in-Some.ensures.value);
+  said = user_said before c.args.self.now c.args.name c.args.word.now c.in-Some.number c.push.new.self said (sym c.in-Some.ensures.value) c.in_ok-push.ensures.ok;
 }
