@@ -8,7 +8,7 @@ demo:
 	@if [ -x $(PROGRAM) ]; then \
 		cd $(EXAMPLE) && ../../$(PROGRAM) -f pf.conf < packets; \
 	else \
-		cd crates/pfctl && rt try --data pf.conf=../../$(EXAMPLE)/pf.conf -- -f pf.conf < ../../$(EXAMPLE)/packets; \
+		cd crates/pfctl && rt try --data pf.conf=../../$(EXAMPLE)/pf.conf --data services.conf=../../$(EXAMPLE)/services.conf -- -f pf.conf < ../../$(EXAMPLE)/packets; \
 	fi
 
 # The gate: every proof from nothing, the must-fail edits, the tests and the program.
