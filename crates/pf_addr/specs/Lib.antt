@@ -8,3 +8,4 @@ pub mod RangeOrder
 pub mod Grammar
 pub mod Text
 pub mod PrefixText
+pub mod Words
