@@ -2,10 +2,7 @@
 use Rattle.std.proofs.Common.{◌≡◌, ℕ, ◌-◌, ◌%◌, ◌^◌, ◌<◌, ◌≤◌, List, Result, Ok, Err, sym, ap, subst, ◌∙◌, arith, inl, inr}
 use Rattle.std.specs.Prelude.{◌↔◌}
 use Rattle.std.specs.Result.{IfOk, IsOkAnd}
-use Rattle.std.specs.Coded.{le_prop}
 use Rattle.std.proofs.lemmas.Bool.{cases_lt}
-use mathlib.Core.HLevel.{is_prop→PathP}
-use native.Mathlib.Nat.{ℕ_set}
 use Rattle.pf_addr.specs.declared.addr.Addr.{Addr}
 use Rattle.pf_addr.specs.declared.prefix.Prefix.{Prefix}
 use Rattle.pf_addr.specs.declared.parse.AddrFault.{AddrFault}
@@ -14,16 +11,8 @@ use Rattle.pf_addr.specs.declared.parse.AddrFault.TheVariants.{MaskTooLong}
 use Rattle.pf_addr.specs.Addr.{width, number, network}
 use Rattle.pf_addr.specs.Grammar.{IsMasked, Writes}
 use Rattle.pf_addr.specs.PrefixText.{IsMaskTooLong, IsMaskedText, IsNetworkOf, IsPrefixText, IsTooLong}
+use Rattle.pf_addr.specs.PrefixOrder.{Prefix-same}
 use Rattle.pf_addr.proofs.Texts.{Writes-unique}
-
--- a prefix is its address and its length
-pub Prefix-same : (p q : Prefix) → p.addr ≡ q.addr → p.len ≡ q.len → p ≡ q
-Prefix-same p q e f = λ i. record {
-  addr = e i;
-  len = f i;
-  fits = is_prop→PathP (λ j. f j ≤ width (e j)) (λ j. le_prop) p.fits q.fits i;
-  no_host_bits = is_prop→PathP (λ j. number (e j) % 2 ^ (width (e j) - f j) ≡ 0) (λ j. ℕ_set _ _) p.no_host_bits q.no_host_bits i;
-}
 
 module _ (text : List ℕ) (a : Addr) (n : ℕ) (r : Result Prefix AddrFault) (writes : Writes text a n)
     (ok : n ≤ width a → IsOkAnd r (IsNetworkOf a n)) (over : width a < n → r ≡ Err (MaskTooLong n)) where
