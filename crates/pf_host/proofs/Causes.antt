@@ -3,12 +3,13 @@ use Rattle.std.proofs.Common.{◌≡◌, ℕ, ◌+◌, ◌≤◌, Bool, true, fa
 use Rattle.pf_base.specs.Decimal.{decimal_of}
 use Rattle.pf_addr.specs.Grammar.{IsAddrText}
 use Rattle.pf_addr.specs.declared.addr.Addr.{Addr}
-use Rattle.pf_addr.specs.declared.prefix.Prefix.{Prefix}
+use Rattle.pf_addr.specs.declared.parse.Masked.{Masked}
+use Rattle.pf_addr.specs.PrefixText.{IsMaskedText}
 use Rattle.pf_host.specs.declared.fault.FactsCause.{FactsCause}
 use Rattle.pf_host.specs.declared.fault.FactsCause.TheVariants.{BadLine, Unknown, Twice, BadAddress, BadNumber, Full}
 use Rattle.pf_host.specs.declared.kind.Kind.TheVariants.{Interface, Address, Host, User, Group, Service}
 use Rattle.pf_host.specs.Line.{Line, lines_about}
-use Rattle.pf_host.specs.Meaning.{HasCause, IsAddressWord, IsFirst, is_named, most_id, most_port, rank}
+use Rattle.pf_host.specs.Meaning.{HasCause, IsFirst, is_named, most_id, most_port, rank}
 use Rattle.pf_host.specs.Reading.{line_with}
 
 no : (b : Bool) → b ≡ false → b ≡ true → ⊥
@@ -167,7 +168,7 @@ address_unknown before name word new = record {
   ];
 }
 
-pub address_bad : (before : List Line) (name word : List ℕ) → is_named Interface before name ≡ true → ((address network : Prefix) → IsAddressWord word address network → ⊥) → IsFirst (HasCause before (line_with Address name word)) BadAddress
+pub address_bad : (before : List Line) (name word : List ℕ) → is_named Interface before name ≡ true → ((address : Masked) → IsMaskedText word address → ⊥) → IsFirst (HasCause before (line_with Address name word)) BadAddress
 address_bad before name word named bad = record {
   has = bad;
   first = λ other. elim other as (λ o. rank o + 1 ≤ rank BadAddress → HasCause before (line_with Address name word) o → ⊥) [
@@ -180,26 +181,26 @@ address_bad before name word named bad = record {
   ];
 }
 
-pub address_full : (before : List Line) (name word : List ℕ) (address network : Prefix) → is_named Interface before name ≡ true → IsAddressWord word address network → nat_le 1024 (length (lines_about Address before)) ≡ true → IsFirst (HasCause before (line_with Address name word)) Full
-address_full before name word address network named is full = record {
+pub address_full : (before : List Line) (name word : List ℕ) (address : Masked) → is_named Interface before name ≡ true → IsMaskedText word address → nat_le 1024 (length (lines_about Address before)) ≡ true → IsFirst (HasCause before (line_with Address name word)) Full
+address_full before name word address named is full = record {
   has = full;
   first = λ other. elim other as (λ o. rank o + 1 ≤ rank Full → HasCause before (line_with Address name word) o → ⊥) [
     | BadLine ↦ λ low h. h
     | Unknown ↦ λ low h. known (is_named Interface before name) named h
     | Twice ↦ λ low h. no false refl h
-    | BadAddress ↦ λ low h. h address network is
+    | BadAddress ↦ λ low h. h address is
     | BadNumber ↦ λ low h. h
     | Full ↦ λ low h. absurd (omega (arith, low))
   ];
 }
 
-pub address_sound : (before : List Line) (name word : List ℕ) (address network : Prefix) → is_named Interface before name ≡ true → IsAddressWord word address network → nat_le 1024 (length (lines_about Address before)) ≡ false → (cause : FactsCause) → HasCause before (line_with Address name word) cause → ⊥
-address_sound before name word address network named is room cause =
+pub address_sound : (before : List Line) (name word : List ℕ) (address : Masked) → is_named Interface before name ≡ true → IsMaskedText word address → nat_le 1024 (length (lines_about Address before)) ≡ false → (cause : FactsCause) → HasCause before (line_with Address name word) cause → ⊥
+address_sound before name word address named is room cause =
     elim cause as (λ o. HasCause before (line_with Address name word) o → ⊥) [
       | BadLine ↦ λ h. h
       | Unknown ↦ λ h. known (is_named Interface before name) named h
       | Twice ↦ λ h. no false refl h
-      | BadAddress ↦ λ h. h address network is
+      | BadAddress ↦ λ h. h address is
       | BadNumber ↦ λ h. h
       | Full ↦ λ h. no (nat_le 1024 (length (lines_about Address before))) room h
     ]

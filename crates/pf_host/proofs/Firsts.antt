@@ -4,21 +4,22 @@ use Rattle.std.specs.List.{list_any}
 use Rattle.std.specs.Result.{is_err, is_ok}
 use Rattle.std.proofs.lemmas.List.{append-nil}
 use Rattle.std.proofs.lemmas.List.Elements.{filter-append}
-use Rattle.pf_host.specs.declared.iface_address.IfaceAddress.{IfaceAddress}
+use Rattle.pf_addr.specs.declared.parse.Masked.{Masked}
+use Rattle.pf_host.specs.declared.row.Row.{Row}
 use Rattle.pf_host.specs.Addresses.{first_of_each, is_beside}
 
 -- what the list gains by a last address: nothing where an earlier one is beside it
-abbrev gain : Bool → IfaceAddress → List IfaceAddress
+abbrev gain : Bool → Row Masked → List (Row Masked)
 gain true b = []
 gain false b = b ∷ []
 
-gain_kept : (beside other : Bool) (a b : IfaceAddress) → is_beside a b ≡ beside → filter (λ x. not (is_beside a x)) (gain other b) ≡ gain (beside || other) b
+gain_kept : (beside other : Bool) (a b : Row Masked) → is_beside a b ≡ beside → filter (λ x. not (is_beside a x)) (gain other b) ≡ gain (beside || other) b
 gain_kept true true a b e = refl
 gain_kept false true a b e = refl
 gain_kept true false a b e = rw e refl
 gain_kept false false a b e = rw e refl
 
-firsts_push : (addresses : List IfaceAddress) (b : IfaceAddress) → first_of_each (addresses ++ b ∷ []) ≡ first_of_each addresses ++ gain (list_any (λ a. is_beside a b) addresses) b
+firsts_push : (addresses : List (Row Masked)) (b : Row Masked) → first_of_each (addresses ++ b ∷ []) ≡ first_of_each addresses ++ gain (list_any (λ a. is_beside a b) addresses) b
 firsts_push [] b = refl
 firsts_push (a ∷ addresses) b =
     let other = list_any (λ x. is_beside x b) addresses in
@@ -27,14 +28,14 @@ firsts_push (a ∷ addresses) b =
     ∙ ap (λ rest. filter (λ x. not (is_beside a x)) (first_of_each addresses) ++ rest) (gain_kept (is_beside a b) other a b refl))
 
 -- an address beside an earlier one is left out
-pub firsts_stay : (addresses : List IfaceAddress) (b : IfaceAddress) → list_any (λ a. is_beside a b) addresses ≡ true → first_of_each (addresses ++ b ∷ []) ≡ first_of_each addresses
+pub firsts_stay : (addresses : List (Row Masked)) (b : Row Masked) → list_any (λ a. is_beside a b) addresses ≡ true → first_of_each (addresses ++ b ∷ []) ≡ first_of_each addresses
 firsts_stay addresses b e = firsts_push addresses b ∙ (ap (λ t. first_of_each addresses ++ gain t b) e ∙ append-nil (first_of_each addresses))
 
 -- another is added
-pub firsts_grow : (addresses : List IfaceAddress) (b : IfaceAddress) → list_any (λ a. is_beside a b) addresses ≡ false → first_of_each (addresses ++ b ∷ []) ≡ first_of_each addresses ++ b ∷ []
+pub firsts_grow : (addresses : List (Row Masked)) (b : Row Masked) → list_any (λ a. is_beside a b) addresses ≡ false → first_of_each (addresses ++ b ∷ []) ≡ first_of_each addresses ++ b ∷ []
 firsts_grow addresses b e = firsts_push addresses b ∙ ap (λ t. first_of_each addresses ++ gain t b) e
 
 -- a push that isn't refused
-pub appended : {A E : Type 0} (r : Result A E) (old more new : List IfaceAddress) → is_err r ≡ false → new ≡ (if (is_ok r) then more else old) → new ≡ more
+pub appended : {A E : Type 0} (r : Result A E) (old more new : List (Row Masked)) → is_err r ≡ false → new ≡ (if (is_ok r) then more else old) → new ≡ more
 appended (Ok x) old more new e is = is
 appended (Err x) old more new e is = cc

@@ -13,7 +13,8 @@ use Rattle.std.proofs.lemmas.List.Folds.{list_any-append}
 use Rattle.std.proofs.lemmas.Map.Steps.{set_value_same}
 use Rattle.std.proofs.lemmas.Slice.Eq.{bytes_eq-Decides}
 use Rattle.std.specs.Map.{set_value}
-use Rattle.std.specs.Result.{OnErr}
+use Rattle.std.specs.Result.{OnErr, OnOk}
+use Rattle.std.proofs.lemmas.Bool.{or_left, or_right}
 use Rattle.std.proofs.Common.{Result, Ok, Err, arith}
 use Rattle.pf_host.specs.declared.row.Row.{Row}
 use Rattle.pf_host.specs.Rows.{has_row, is_key, is_listed, values_at, values_of}
@@ -75,3 +76,9 @@ name_kept old new names name updates same q =
     ∙ (ap (λ b. cond b true (is_key old q)) (same_test name q)
     ∙ (ap (λ a. cond (bytes_eq name q) true a) (same q)
     ∙ (or_last (bytes_eq name q) (is_listed names q) ∙ sym (list_any-append (λ known. bytes_eq known q) names (name ∷ [])))))
+
+-- a name that was added is listed
+pub listed_last : {A E : Type 0} (r : Result A E) (old new : List (List ℕ)) (name : List ℕ) → OnOk r (new ≡ old ++ name ∷ []) → OnOk r (is_listed new name ≡ true)
+listed_last (Ok x) old new name e =
+    rw e (list_any-append (λ known. bytes_eq known name) old (name ∷ []) ∙ or_right (is_listed old name) _ (or_left (bytes_eq name name) false ((bytes_eq-Decides name name).1 refl)))
+listed_last (Err x) old new name e = tt

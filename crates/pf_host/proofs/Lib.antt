@@ -1,10 +1,10 @@
-pub mod AddressWords
 pub mod Causes
 pub mod Firsts
+pub mod Found
+pub mod OneMeaning
 pub mod Kept
 pub mod Lines
 pub mod OneFault
 pub mod Pairs
 pub mod Said
 pub mod Texts
-pub mod Zeros

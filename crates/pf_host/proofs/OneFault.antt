@@ -1,12 +1,12 @@
 -- A text has facts or one first fault, and never both.
 use Rattle.std.proofs.Common.{◌≡◌, ℕ, ◌<◌, inl, inr, List, [], ◌∷◌, ◌++◌, length, refl, sym, ap, ◌∙◌, subst, arith}
 use Rattle.std.proofs.lemmas.Bool.{cases_lt}
-use Rattle.pf_host.specs.declared.facts.Facts.{Facts}
+use Rattle.pf_host.specs.Facts.{HostFacts}
 use Rattle.pf_host.specs.declared.fault.FactsCause.{FactsCause}
 use Rattle.pf_host.specs.declared.fault.FactsCause.TheVariants.{BadLine, Unknown, Twice, BadAddress, BadNumber, Full}
 use Rattle.pf_host.specs.Meaning.{HasFault, IsFactsText, IsFaultAt, IsFirst, StandsAt, rank}
 
-pub apart : (text : List ℕ) (facts : Facts) (line : ℕ) (cause : FactsCause) → IsFactsText text facts → IsFaultAt text line cause → ⊥
+pub apart : (text : List ℕ) (facts : HostFacts) (line : ℕ) (cause : FactsCause) → IsFactsText text facts → IsFaultAt text line cause → ⊥
 apart text facts line cause read fault = read.sound fault.before fault.line fault.stands cause fault.fault.has
 
 -- of two places of a list the first stands before the second

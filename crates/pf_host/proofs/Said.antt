@@ -7,13 +7,14 @@ use Rattle.std.proofs.lemmas.List.Elements.{filter-append}
 use Rattle.pf_base.specs.Decimal.{decimal_of}
 use Rattle.pf_addr.specs.Grammar.{IsAddrText}
 use Rattle.pf_addr.specs.declared.addr.Addr.{Addr}
-use Rattle.pf_host.specs.declared.facts.Facts.{Facts}
-use Rattle.pf_host.specs.declared.iface_address.IfaceAddress.{IfaceAddress}
+use Rattle.pf_host.specs.Facts.{HostFacts}
+use Rattle.pf_addr.specs.declared.parse.Masked.{Masked}
+use Rattle.pf_addr.specs.PrefixText.{IsMaskedText}
 use Rattle.pf_host.specs.declared.kind.Kind.{Kind}
 use Rattle.pf_host.specs.declared.kind.Kind.TheVariants.{Interface, Address, Host, User, Group, Service}
 use Rattle.pf_host.specs.declared.row.Row.{Row}
 use Rattle.pf_host.specs.Line.{Line, is_about, lines_about}
-use Rattle.pf_host.specs.Meaning.{AreSaid, IsAddressWord, SaysAddress, SaysHost, SaysNumber, groups_of, groups_said, most_id, most_port}
+use Rattle.pf_host.specs.Meaning.{AreSaid, SaysAddress, SaysHost, SaysNumber, groups_of, groups_said, most_id, most_port}
 use Rattle.pf_host.specs.Reading.{line_with}
 use Rattle.pf_host.proofs.Pairs.{zip_push}
 
@@ -31,7 +32,7 @@ pub none_about : (kind : Kind) → lines_about kind [] ≡ []
 unfolding lines_about
 none_about kind = refl
 
-pub interface_said : (before : List Line) (old : Facts) (name : List ℕ) (rest : List (List ℕ)) (interfaces : List (List ℕ)) (members : List (Row (List ℕ))) → AreSaid before old → interfaces ≡ old.interfaces ++ name ∷ [] → members ≡ old.members ++ groups_of name rest → AreSaid (before ++ (record { kind = Interface; name = name; rest = rest }) ∷ []) (record old { interfaces = interfaces; members = members })
+pub interface_said : (before : List Line) (old : HostFacts) (name : List ℕ) (rest : List (List ℕ)) (interfaces : List (List ℕ)) (members : List (Row (List ℕ))) → AreSaid before old → interfaces ≡ old.interfaces ++ name ∷ [] → members ≡ old.members ++ groups_of name rest → AreSaid (before ++ (record { kind = Interface; name = name; rest = rest }) ∷ []) (record old { interfaces = interfaces; members = members })
 interface_said before old name rest interfaces members said named grouped =
     let line : Line = (record { kind = Interface; name = name; rest = rest }) in
     record {
@@ -44,20 +45,20 @@ interface_said before old name rest interfaces members said named grouped =
       services = rw (stays Service before line refl) said.services;
     }
 
-pub address_said : (before : List Line) (old : Facts) (word : List ℕ) (said_now : IfaceAddress) (addresses : List IfaceAddress) → AreSaid before old → IsAddressWord word said_now.address said_now.network → addresses ≡ old.addresses ++ said_now ∷ [] → AreSaid (before ++ (line_with Address said_now.iface word) ∷ []) (record old { addresses = addresses })
-address_said before old word said_now addresses said is e =
-    let line : Line = (line_with Address said_now.iface word) in
+pub address_said : (before : List Line) (old : HostFacts) (name word : List ℕ) (value : Masked) (rows : List (Row Masked)) → AreSaid before old → IsMaskedText word value → rows ≡ old.addresses ++ (record { name = name; value = value }) ∷ [] → AreSaid (before ++ (line_with Address name word) ∷ []) (record old { addresses = rows })
+address_said before old name word value rows said is e =
+    let line : Line = (line_with Address name word) in
     record {
       interfaces = rw (stays Interface before line refl) said.interfaces;
       members = rw (stays Interface before line refl) said.members;
-      addresses = rw (grows Address before line refl, e) (zip_push SaysAddress (lines_about Address before) old.addresses line said_now said.addresses (record { iface = refl; address = is }));
+      addresses = rw (grows Address before line refl, e) (zip_push SaysAddress (lines_about Address before) old.addresses line (record { name = name; value = value }) said.addresses (record { name = refl; address = is }));
       hosts = rw (stays Host before line refl) said.hosts;
       users = rw (stays User before line refl) said.users;
       groups = rw (stays Group before line refl) said.groups;
       services = rw (stays Service before line refl) said.services;
     }
 
-pub host_said : (before : List Line) (old : Facts) (name word : List ℕ) (value : Addr) (rows : List (Row Addr)) → AreSaid before old → IsAddrText word value → rows ≡ old.hosts ++ (record { name = name; value = value }) ∷ [] → AreSaid (before ++ (line_with Host name word) ∷ []) (record old { hosts = rows })
+pub host_said : (before : List Line) (old : HostFacts) (name word : List ℕ) (value : Addr) (rows : List (Row Addr)) → AreSaid before old → IsAddrText word value → rows ≡ old.hosts ++ (record { name = name; value = value }) ∷ [] → AreSaid (before ++ (line_with Host name word) ∷ []) (record old { hosts = rows })
 host_said before old name word value rows said is e =
     let line : Line = (line_with Host name word) in
     record {
@@ -70,7 +71,7 @@ host_said before old name word value rows said is e =
       services = rw (stays Service before line refl) said.services;
     }
 
-pub user_said : (before : List Line) (old : Facts) (name word : List ℕ) (value : ℕ) (rows : List (Row ℕ)) → AreSaid before old → decimal_of most_id word ≡ Some value → rows ≡ old.users ++ (record { name = name; value = value }) ∷ [] → AreSaid (before ++ (line_with User name word) ∷ []) (record old { users = rows })
+pub user_said : (before : List Line) (old : HostFacts) (name word : List ℕ) (value : ℕ) (rows : List (Row ℕ)) → AreSaid before old → decimal_of most_id word ≡ Some value → rows ≡ old.users ++ (record { name = name; value = value }) ∷ [] → AreSaid (before ++ (line_with User name word) ∷ []) (record old { users = rows })
 user_said before old name word value rows said is e =
     let line : Line = (line_with User name word) in
     record {
@@ -83,7 +84,7 @@ user_said before old name word value rows said is e =
       services = rw (stays Service before line refl) said.services;
     }
 
-pub group_said : (before : List Line) (old : Facts) (name word : List ℕ) (value : ℕ) (rows : List (Row ℕ)) → AreSaid before old → decimal_of most_id word ≡ Some value → rows ≡ old.groups ++ (record { name = name; value = value }) ∷ [] → AreSaid (before ++ (line_with Group name word) ∷ []) (record old { groups = rows })
+pub group_said : (before : List Line) (old : HostFacts) (name word : List ℕ) (value : ℕ) (rows : List (Row ℕ)) → AreSaid before old → decimal_of most_id word ≡ Some value → rows ≡ old.groups ++ (record { name = name; value = value }) ∷ [] → AreSaid (before ++ (line_with Group name word) ∷ []) (record old { groups = rows })
 group_said before old name word value rows said is e =
     let line : Line = (line_with Group name word) in
     record {
@@ -96,7 +97,7 @@ group_said before old name word value rows said is e =
       services = rw (stays Service before line refl) said.services;
     }
 
-pub service_said : (before : List Line) (old : Facts) (name word : List ℕ) (value : ℕ) (rows : List (Row ℕ)) → AreSaid before old → decimal_of most_port word ≡ Some value → rows ≡ old.services ++ (record { name = name; value = value }) ∷ [] → AreSaid (before ++ (line_with Service name word) ∷ []) (record old { services = rows })
+pub service_said : (before : List Line) (old : HostFacts) (name word : List ℕ) (value : ℕ) (rows : List (Row ℕ)) → AreSaid before old → decimal_of most_port word ≡ Some value → rows ≡ old.services ++ (record { name = name; value = value }) ∷ [] → AreSaid (before ++ (line_with Service name word) ∷ []) (record old { services = rows })
 service_said before old name word value rows said is e =
     let line : Line = (line_with Service name word) in
     record {

@@ -4,7 +4,7 @@ use Rattle.std.specs.List.{filter_map}
 use Rattle.std.proofs.lemmas.List.{append-nil}
 use Rattle.std.proofs.lemmas.List.Elements.{filter_map-append}
 use Rattle.pf_base.specs.Text.{fields_of}
-use Rattle.pf_host.specs.declared.facts.Facts.{Facts}
+use Rattle.pf_host.specs.Facts.{HostFacts}
 use Rattle.pf_host.specs.declared.fault.FactsCause.{FactsCause}
 use Rattle.pf_host.specs.declared.fault.FactsCause.TheVariants.{BadLine, Unknown, Twice, BadAddress, BadNumber, Full}
 use Rattle.pf_host.specs.declared.fault.LineFault.{LineFault}
@@ -34,7 +34,7 @@ unfolding lines_said
 said_line before text line e = filter_map-append line_said before (text ∷ []) ∙ rw e refl
 
 -- a line that is passed over has no fault and adds nothing
-pub passed : (before : List (List ℕ)) (text : List ℕ) (facts : Facts) → is_passed_over text ≡ true → AreSaid (lines_said before) facts → TakesText before text facts
+pub passed : (before : List (List ℕ)) (text : List ℕ) (facts : HostFacts) → is_passed_over text ≡ true → AreSaid (lines_said before) facts → TakesText before text facts
 passed before text facts e said =
     let nothing = says_nothing text e in
     record {
@@ -76,7 +76,7 @@ of_text before text line e is cause =
     ]
 
 -- a line without a fault is taken
-pub taken : (before : List (List ℕ)) (text : List ℕ) (line : Line) (facts : Facts) → is_passed_over text ≡ false → line_of (fields_of text) ≡ Some line → Takes (lines_said before) line facts → TakesText before text facts
+pub taken : (before : List (List ℕ)) (text : List ℕ) (line : Line) (facts : HostFacts) → is_passed_over text ≡ false → line_of (fields_of text) ≡ Some line → Takes (lines_said before) line facts → TakesText before text facts
 taken before text line facts e is takes = record {
   sound = λ cause h. takes.sound cause (of_line before text line e is cause h);
   said = rw (said_line before text line (says_line text (Some line) e is)) takes.said;
@@ -123,7 +123,7 @@ sound_none [] line stands cause h = let e = stands.joined in absurd cc
 sound_none (b ∷ before) line stands cause h = let e = stands.joined in absurd cc
 
 -- a line that was read and added, or refused
-pub takes_text : (result : Result Unit LineFault) (text : List ℕ) (line : Line) (old new : Facts) → is_passed_over text ≡ false → line_of (fields_of text) ≡ Some line → TakesOr result line old new → TakesTextOr result text old new
+pub takes_text : (result : Result Unit LineFault) (text : List ℕ) (line : Line) (old new : HostFacts) → is_passed_over text ≡ false → line_of (fields_of text) ≡ Some line → TakesOr result line old new → TakesTextOr result text old new
 takes_text (Ok x) text line old new e is h = λ before said. taken before text line new e is (h (lines_said before) said)
 takes_text (Err (Cause cause)) text line old new e is h = λ before said. refused before text line cause e is (h (lines_said before) said)
 takes_text (Err NoMemory) text line old new e is h = tt

@@ -1,4 +1,6 @@
 pub mod Addresses
+pub mod Facts
+pub mod Kept
 pub mod Line
 pub mod Meaning
 pub mod Queries

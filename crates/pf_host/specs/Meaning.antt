@@ -1,22 +1,20 @@
 -- What a facts file says: the facts of its lines, and the faults of a line after the lines before it.
-use Rattle.std.specs.Prelude.{◌≡◌, ℕ, ◌+◌, ◌≤◌, ◌≢◌, Bool, true, false, not, ◌&&◌, nat_le, IsTrue, List, ◌∷◌, ◌++◌, length, map, Some, None, All}
+use Rattle.std.specs.Prelude.{◌≡◌, ℕ, ◌+◌, ◌≤◌, Bool, true, false, not, ◌&&◌, nat_le, IsTrue, List, ◌∷◌, ◌++◌, length, map, Some, None}
 use Rattle.std.specs.List.{list_any, flat_map, AllZip}
 use Rattle.std.specs.Option.{IsSomeAnd}
 use Rattle.std.specs.Str.{bytes_eq}
 use Rattle.pf_base.specs.Decimal.{decimal_of}
 use Rattle.pf_base.specs.Text.{fields_of, lines_of}
-use Rattle.pf_addr.specs.Addr.{width}
-use Rattle.pf_addr.specs.Grammar.{IsAddrText, IsNetworkText, slash}
-use Rattle.pf_addr.specs.PrefixText.{IsPrefixText}
+use Rattle.pf_addr.specs.Grammar.{IsAddrText}
+use Rattle.pf_addr.specs.PrefixText.{IsMaskedText}
 use Rattle.pf_addr.specs.declared.addr.Addr.{Addr}
-use Rattle.pf_addr.specs.declared.prefix.Prefix.{Prefix}
-use Rattle.pf_host.specs.declared.iface_address.IfaceAddress.{IfaceAddress}
-use Rattle.pf_host.specs.declared.facts.Facts.{Facts}
+use Rattle.pf_addr.specs.declared.parse.Masked.{Masked}
 use Rattle.pf_host.specs.declared.fault.FactsCause.{FactsCause}
 use Rattle.pf_host.specs.declared.fault.FactsCause.TheVariants.{BadLine, Unknown, Twice, BadAddress, BadNumber, Full}
 use Rattle.pf_host.specs.declared.kind.Kind.{Kind}
 use Rattle.pf_host.specs.declared.kind.Kind.TheVariants.{Interface, Address, Host, User, Group, Service}
 use Rattle.pf_host.specs.declared.row.Row.{Row}
+use Rattle.pf_host.specs.Facts.{HostFacts}
 use Rattle.pf_host.specs.Line.{Line, is_about, is_passed_over, line_of, line_said, lines_about, lines_said, word_of}
 
 -- the greatest user or group, and the greatest port
@@ -26,21 +24,10 @@ most_id = 4294967295
 abbrev pub most_port : ℕ
 most_port = 65535
 
--- The word is an address and a mask: before the first slash stands the address, with all its bits, and the
--- whole word writes its network.
-pub record IsAddressWord (word : List ℕ) (address network : Prefix) : Type 0 where
-  pub front : List ℕ
-  pub mask : List ℕ
-  pub spelled : word ≡ front ++ slash ∷ mask
-  pub first : All (λ byte. byte ≢ slash) front
-  pub written : IsNetworkText front address.addr
-  pub whole : address.len ≡ width address.addr
-  pub prefix : IsPrefixText word network
-
--- the line says that its interface has this address
-pub record SaysAddress (line : Line) (said : IfaceAddress) : Type 0 where
-  pub iface : said.iface ≡ line.name
-  pub address : IsAddressWord (word_of line.rest) said.address said.network
+-- the line says that its interface has this address, with its mask
+pub record SaysAddress (line : Line) (said : Row Masked) : Type 0 where
+  pub name : said.name ≡ line.name
+  pub address : IsMaskedText (word_of line.rest) said.value
 
 -- the line says that its host has this address
 pub record SaysHost (line : Line) (said : Row Addr) : Type 0 where
@@ -65,7 +52,7 @@ abbrev pub names_about : Kind → List Line → List (List ℕ)
 names_about kind lines = map (λ line. line.name) (lines_about kind lines)
 
 -- the facts are those of these lines, in their order
-pub record AreSaid (lines : List Line) (facts : Facts) : Type 0 where
+pub record AreSaid (lines : List Line) (facts : HostFacts) : Type 0 where
   pub interfaces : facts.interfaces ≡ names_about Interface lines
   pub members : facts.members ≡ flat_map groups_said (lines_about Interface lines)
   pub addresses : AllZip SaysAddress (lines_about Address lines) facts.addresses
@@ -92,7 +79,7 @@ is_limited kind = false
 
 -- the word behind the name is no address, of an interface with its mask
 abbrev pub HasBadAddress : Kind → List ℕ → Type 0
-HasBadAddress Address word = (address network : Prefix) → IsAddressWord word address network → ⊥
+HasBadAddress Address word = (address : Masked) → IsMaskedText word address → ⊥
 HasBadAddress Host word = (address : Addr) → IsAddrText word address → ⊥
 HasBadAddress kind word = ⊥
 
@@ -146,7 +133,7 @@ abbrev pub IsSound : List (List ℕ) → Type 0
 IsSound lines = (before : List (List ℕ)) (line : List ℕ) → StandsAt lines before line → (cause : FactsCause) → HasFault before line cause → ⊥
 
 -- the text is a facts file and says these facts
-pub record IsFactsText (text : List ℕ) (facts : Facts) : Type 0 where
+pub record IsFactsText (text : List ℕ) (facts : HostFacts) : Type 0 where
   pub sound : IsSound (lines_of text)
   pub said : AreSaid (lines_said (lines_of text)) facts
 

@@ -2,10 +2,7 @@
 use Rattle.std.specs.Prelude.{◌≡◌, ℕ, true, List, [], ◌∷◌, ◌++◌, Option, Some, None, Result, MatchResult}
 use Rattle.std.specs.Option.{option_copied}
 use Rattle.pf_base.specs.Text.{fields_of}
-use Rattle.pf_addr.specs.declared.prefix.Prefix.{Prefix}
-use Rattle.pf_host.specs.declared.facts.Facts.{Facts}
 use Rattle.pf_host.specs.declared.fault.FactsCause.{FactsCause}
-use Rattle.pf_host.specs.declared.fault.FactsCause.TheVariants.{BadAddress}
 use Rattle.pf_host.specs.declared.fault.FactsFault.{FactsFault}
 use Rattle.pf_host.specs.declared.fault.FactsFault.TheVariants as facts_fault
 use Rattle.pf_host.specs.declared.fault.LineFault.{LineFault}
@@ -14,8 +11,9 @@ use Rattle.pf_host.specs.declared.kind.Kind.{Kind}
 use Rattle.pf_host.specs.declared.kind.Kind.TheVariants as kind
 use Rattle.pf_host.specs.declared.statement.Statement.{Statement}
 use Rattle.pf_host.specs.declared.statement.Statement.TheVariants as statement
+use Rattle.pf_host.specs.Facts.{HostFacts}
 use Rattle.pf_host.specs.Line.{Line, is_rest, lines_said}
-use Rattle.pf_host.specs.Meaning.{AreSaid, HasCause, HasFault, IsAddressWord, IsFirst}
+use Rattle.pf_host.specs.Meaning.{AreSaid, HasCause, HasFault, IsFirst}
 
 -- the fault of a line as that of the text
 abbrev pub fault_at : LineFault → ℕ → FactsFault
@@ -59,29 +57,23 @@ pub record IsRead (read : Statement) (about : Kind) (name : List ℕ) (rest : Li
   pub line : line_read read ≡ (record { kind = about; name = name; rest = rest })
   pub fits : is_rest about rest ≡ true
 
--- the address and the network of a word, or that it has none
-abbrev pub GivesAddress : Result (Prefix × Prefix) LineFault → List ℕ → Type 0
-GivesAddress result word = MatchResult result
-    (λ read. IsAddressWord word read.0 read.1)
-    (λ fault. IfCause fault (λ cause. (cause ≡ BadAddress) × ((address network : Prefix) → IsAddressWord word address network → ⊥)))
-
 -- a line that has no fault after the lines before it adds what it says
-pub record Takes (before : List Line) (line : Line) (facts : Facts) : Type 0 where
+pub record Takes (before : List Line) (line : Line) (facts : HostFacts) : Type 0 where
   pub sound : (cause : FactsCause) → HasCause before line cause → ⊥
   pub said : AreSaid (before ++ line ∷ []) facts
 
 -- A line is taken, or it has this first cause. Where it is taken, the new facts are said by one line more.
-abbrev pub TakesOr : Result Unit LineFault → Line → Facts → Facts → Type 0
+abbrev pub TakesOr : Result Unit LineFault → Line → HostFacts → HostFacts → Type 0
 TakesOr result line old new = MatchResult result
     (λ _. (before : List Line) → AreSaid before old → Takes before line new)
     (λ fault. IfCause fault (λ cause. (before : List Line) → AreSaid before old → IsFirst (HasCause before line) cause))
 
 -- the same of a line of a text
-pub record TakesText (before : List (List ℕ)) (text : List ℕ) (facts : Facts) : Type 0 where
+pub record TakesText (before : List (List ℕ)) (text : List ℕ) (facts : HostFacts) : Type 0 where
   pub sound : (cause : FactsCause) → HasFault before text cause → ⊥
   pub said : AreSaid (lines_said (before ++ text ∷ [])) facts
 
-abbrev pub TakesTextOr : Result Unit LineFault → List ℕ → Facts → Facts → Type 0
+abbrev pub TakesTextOr : Result Unit LineFault → List ℕ → HostFacts → HostFacts → Type 0
 TakesTextOr result text old new = MatchResult result
     (λ _. (before : List (List ℕ)) → AreSaid (lines_said before) old → TakesText before text new)
     (λ fault. IfCause fault (λ cause. (before : List (List ℕ)) → AreSaid (lines_said before) old → IsFirst (HasFault before text) cause))

@@ -73,6 +73,13 @@ impl<T: Copy> Index<T> {
         Ok(())
     }
 
+    // All rows, in order.
+    pub(crate) fn rows(&self) -> &[Row<T>]
+        ensures { result.now ≡ self.now }
+    {
+        self.rows.as_slice()
+    }
+
     // What the rows of the name stand for.
     pub(crate) fn get(&self, name: &Name) -> &[T]
         ensures { result.now ≡ values_of self.now name.now }

@@ -5,21 +5,23 @@
 #![tactic(auto)]
 
 mod addresses;
+mod entry;
 pub mod facts;
 pub mod fault;
-mod iface_address;
 mod index;
 mod kind;
+pub mod laws;
+mod lists;
 mod names;
 pub mod read;
 mod row;
 mod statement;
 mod values;
-mod word;
 
 pub use facts::Facts;
 pub use fault::{FactsCause, FactsFault};
-pub use read::{facts_and_one_fault_exclude_each_other, read_facts};
+pub use laws::{facts_and_one_fault_exclude_each_other, facts_have_one_meaning};
+pub use read::read_facts;
 
 #[cfg(test)]
 mod tests;

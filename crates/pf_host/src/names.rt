@@ -1,5 +1,5 @@
 //! A list of different names.
-ghost use Rattle.std.specs.Prelude.{◌≡◌, [], ◌∷◌, ◌++◌, OnOk, OnErr};
+ghost use Rattle.std.specs.Prelude.{◌≡◌, ℕ, List, [], ◌∷◌, ◌++◌, true, OnOk, OnErr};
 ghost use Rattle.pf_host.specs.Rows.{is_listed};
 
 use pf_base::{Name, NoMemory};
@@ -59,5 +59,16 @@ impl Names {
         ensures { result ≡ is_listed self.now name.now }
     {
         self.known.contains(name)
+    }
+
+    // Adds the name, unless it is there.
+    pub(crate) fn keep(&mut self, name: Name) -> Result<(), NoMemory>
+        ensures kept { OnOk result (is_listed self.new name ≡ true) }
+        ensures others { (other : List ℕ) → is_listed self.old other ≡ true → is_listed self.new other ≡ true }
+    {
+        if self.has(&name) {
+            return Ok(());
+        }
+        self.push(name)
     }
 }

@@ -4,7 +4,7 @@ ghost use Rattle.std.specs.List.{list_all};
 ghost use Rattle.std.specs.Option.{option_copied};
 ghost use Rattle.pf_base.specs.Name.{is_plain_name};
 ghost use Rattle.pf_base.specs.Text.{fields_of, is_nothing};
-ghost use Rattle.pf_host.specs.Line.{is_one, is_rest, line_of};
+ghost use Rattle.pf_host.specs.Line.{is_one, is_passed_over, is_rest, line_of};
 ghost use Rattle.pf_host.specs.Reading.{IsFit, IsRead, fields_left, line_read};
 
 use crate::kind::{Kind, kind_of};
@@ -83,4 +83,14 @@ pub(crate) fn read_statement(text: &[u8]) -> Option<Statement<'_>>
     let kind = kind_of(keyword)?;
     let (name, rest) = split_field(rest?);
     statement_of(kind, plain_name(name)?, rest)
+}
+
+// Does the line say nothing?
+pub(crate) fn passes_over(text: &[u8]) -> bool
+    ensures { result ≡ is_passed_over text.now }
+{
+    match text {
+        [] => true,
+        [byte, ..] => *byte == b'#',
+    }
 }

@@ -10,7 +10,7 @@ loop-line-init c = record {
   counted = refl;
   few = omega arith;
   sound = sound_none;
-  said = rw nothing_said c.new-facts.ensures;
+  said = rw nothing_said c.new-lists.ensures.said;
 }
 
 pub loop-line-preserved : goal.loop-line-preserved

@@ -1,5 +1,6 @@
 use Rattle.std.proofs.Common.{◌≡◌, ℕ, ◌+◌, ◌≤◌, List, ◌++◌, length}
 use Rattle.pf_base.specs.Text.{lines_of}
+use Rattle.pf_host.specs.Facts.{facts_in}
 use Rattle.pf_host.specs.Line.{lines_said}
 use Rattle.pf_host.specs.Meaning.{AreSaid, IsSound}
 use Rattle.pf_host.proofs.read.read_facts.Given as goal
@@ -12,7 +13,7 @@ invariant-loop-line l = record {
   counted : length seen ≡ l.number;
   few : l.number + length l.rest ≤ length l.fn.text;
   sound : IsSound seen;
-  said : AreSaid (lines_said seen) l.facts;
+  said : AreSaid (lines_said seen) (facts_in l.lists);
 }
 
 abbrev pub decreases-loop-line : goal.decreases-loop-line
