@@ -5,6 +5,7 @@ use Rattle.std.specs.Option.{option_or}
 use Rattle.pf_rule.specs.declared.params.Log.{Log}
 use Rattle.pf_rule.specs.declared.params.Params.{Params}
 use Rattle.pf_rule.specs.declared.params.Scrub.{Scrub}
+use Rattle.pf_rule.specs.Translation.{target_over}
 
 abbrev pub scrub_over : Scrub → Scrub → Scrub
 scrub_over new old = record {
@@ -33,4 +34,6 @@ laid_over new old = record {
   scrub = scrub_over new.scrub old.scrub;
   log = log_over new.log old.log;
   allow_opts = old.allow_opts || new.allow_opts;
+  nat = target_over new.nat old.nat;
+  rdr = target_over new.rdr old.rdr;
 }

@@ -7,4 +7,6 @@ pub mod Hit
 pub mod Laying
 pub mod Opening
 pub mod Probe
+pub mod Translation
 pub mod Walk
+pub mod Walking

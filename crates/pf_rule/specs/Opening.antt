@@ -17,6 +17,8 @@ no_params = record {
   scrub = record { no_df = false; random_id = false; reassemble_tcp = false; min_ttl = None; max_mss = None };
   log = record { on = false; all = false; matches = false; user = false; to = None };
   allow_opts = false;
+  nat = None;
+  rdr = None;
 }
 
 -- no option is given

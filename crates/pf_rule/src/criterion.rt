@@ -89,7 +89,7 @@ fn in_set<M: Members, I: Ifaces>(what: &AddrSet, addr: &Addr, members: &M, iface
     }
 }
 
-fn has_ports(packet: &Packet) -> bool
+pub(crate) fn has_ports(packet: &Packet) -> bool
     ensures { result ≡ is_tcp_or_udp packet.now.proto }
 {
     packet.proto == TCP || packet.proto == UDP

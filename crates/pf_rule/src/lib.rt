@@ -17,7 +17,9 @@ pub mod reply;
 pub mod rule;
 pub mod state;
 pub mod testing;
+pub mod translation;
 pub mod walk;
+pub mod walking;
 
 pub use applying::{apply, effect_twice_is_once};
 pub use criteria::{AddrSet, AddrTest, Criteria, IfTest, TagTest};
@@ -31,7 +33,9 @@ pub use reply::answer;
 pub use rule::Rule;
 pub use state::{Flush, Overload, Rate, StateKind, StateOptions, Track};
 pub use testing::{Tested, hit};
+pub use translation::Target;
 pub use walk::{Answer, Decision, Marks, Walk};
+pub use walking::laws_of_walks;
 
 #[cfg(test)]
 mod tests;

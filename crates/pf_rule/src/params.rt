@@ -1,7 +1,9 @@
-//! The parameters that rules set (pf.conf(5), PARAMETERS and TRAFFIC NORMALISATION).
+//! The parameters that rules set (pf.conf(5), PARAMETERS, TRAFFIC NORMALISATION and
+//! TRANSLATION).
 ghost use Rattle.std.specs.Prelude.{◌≡◌};
 ghost use Rattle.pf_rule.specs.Laying.{laid_over, log_over, scrub_over};
 
+use crate::translation::Target;
 use pf_base::Name;
 
 /// The parameters of a rule, or those that a packet has got so far.
@@ -16,6 +18,10 @@ pub struct Params {
     pub scrub: Scrub,
     pub log: Log,
     pub allow_opts: bool,
+    /// `nat-to`
+    pub nat: Option<Target>,
+    /// `rdr-to`
+    pub rdr: Option<Target>,
 }
 
 impl Params {
@@ -27,6 +33,8 @@ impl Params {
         scrub: Scrub::NONE,
         log: Log::NONE,
         allow_opts: false,
+        nat: None,
+        rdr: None,
     };
 
     /// These parameters over others: a value replaces the other where it is given, and what is only
@@ -41,6 +49,8 @@ impl Params {
             scrub: self.scrub.over(&old.scrub),
             log: self.log.over(&old.log),
             allow_opts: old.allow_opts || self.allow_opts,
+            nat: Target::over(self.nat, old.nat),
+            rdr: Target::over(self.rdr, old.rdr),
         }
     }
 }
