@@ -1,5 +1,5 @@
 //! Names of interfaces, tables, queues, tags and the like.
-ghost use Rattle.std.specs.Prelude.{◌≡◌, IfSome, IsSome, ◌↔◌};
+ghost use Rattle.std.specs.Prelude.{◌≡◌, ◌≤◌, IfSome, IsSome, length, take, ◌↔◌};
 ghost use Rattle.std.proofs.Common.{rules};
 ghost use Rattle.std.specs.Cmp.{partial_order_from_own_ties};
 ghost use Rattle.std.specs.Cmp.Lexicographic.{pointwise, slice_cmp};
@@ -64,6 +64,18 @@ impl Name {
         ensures text { IsNameText self.now }
     {
         &self.bytes[..self.len as usize]
+    }
+}
+
+/// A word as a fault bears it: its first 63 bytes. Takes no memory.
+pub fn named_in_fault(word: &[u8]) -> Name
+    requires { 1 ≤ length word.now }
+    ensures { result ≡ take 63 word.now }
+{
+    let end = word.len().min(Name::MOST);
+    match Name::new(&word[..end]) {
+        Some(name) => name,
+        None => unreachable!(),
     }
 }
 
