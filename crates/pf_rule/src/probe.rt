@@ -12,11 +12,11 @@ use crate::testing::{Tested, hit};
 use crate::walk::{Answer, Marks, Walk};
 use crate::{applying, reply};
 use pf_addr::Ifaces;
-use pf_base::{Name, Steps};
+use pf_base::{Ledger, Name, Steps};
 
 /// A walk whose packet is hidden: it shows only by tests, which are counted under `L`, its interface
 /// also by `skips`, and its tag also by `answer`.
-pub trait Probe<L> {
+pub trait Probe<L: Ledger> {
     ghost use Rattle.pf_rule.specs.declared.walk.Walk.{Walk};
 
     ghost walk: { Self → Walk };
@@ -32,7 +32,7 @@ pub trait Probe<L> {
         ensures found { let around = around_by (M.member members.now) (I.in_group ifaces.now) (I.dynamic ifaces.now) in
             Finds around rule.now (walk self.old) result }
         ensures same { walk self.new ≡ walk self.old }
-        ensures counted { steps.new.count ≡ steps.old.count + 1 };
+        ensures counted { steps.new ≡ steps.old + 1 };
 
     /// Does what a rule that matches does. The rule is no anchor.
     fn apply(&mut self, rule: &Rule)
@@ -56,7 +56,7 @@ pub trait Probe<L> {
         ensures { result ≡ answer_of_walk (walk self.now) };
 }
 
-impl<L> Probe<L> for Walk {
+impl<L: Ledger> Probe<L> for Walk {
     ghost walk = { λ walk. walk };
 
     fn test<M: Members, I: Ifaces>(

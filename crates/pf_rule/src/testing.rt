@@ -13,7 +13,7 @@ use crate::packet::Packet;
 use crate::rule::Rule;
 use crate::walk::Walk;
 use pf_addr::Ifaces;
-use pf_base::Steps;
+use pf_base::{Ledger, Steps};
 
 /// What the test of a rule finds.
 #[derive(Clone, Copy, Debug, PartialEq, Eq)]
@@ -46,7 +46,7 @@ const TARGET_PORT: u8 = 7;
 
 /// Tests a rule at a walk, which is counted (pf.conf(5), PARAMETERS).
 #[tactic(auto, using(crate::proofs::Founds::finds_field, crate::proofs::Founds::finds_hit, crate::proofs::Founds::finds_other))]
-pub fn hit<M: Members, I: Ifaces, L>(
+pub fn hit<M: Members, I: Ifaces, L: Ledger>(
     rule: &Rule,
     walk: &Walk,
     members: &M,
@@ -55,7 +55,7 @@ pub fn hit<M: Members, I: Ifaces, L>(
 ) -> Tested
     ensures found { let around = around_by (M.member members.now) (I.in_group ifaces.now) (I.dynamic ifaces.now) in
         Finds around rule.now walk.now result }
-    ensures counted { steps.new.count ≡ steps.old.count + 1 }
+    ensures counted { steps.new ≡ steps.old + 1 }
 {
     steps.tick();
     match failing_field(&rule.criteria, &walk.packet, members, ifaces) {

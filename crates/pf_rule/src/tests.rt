@@ -1,6 +1,6 @@
 use crate::*;
 use pf_addr::{Addr, DynIf, Ifaces, Prefix, Range, parse_addr, parse_prefix};
-use pf_base::{Family, Ledger, Name, Steps};
+use pf_base::{Family, Name, Steps, Uncounted};
 use pf_ops::{IcmpType, Op16, Op32, OpKind, TcpFlags};
 use std::test::Fail;
 
@@ -410,7 +410,7 @@ fn the_default_rules_decide(rt: HostRuntime) -> Result<(), Fail> {
 }
 
 // Tests a rule at a probe of any type, and does what it does where it hits.
-fn probed<P: Probe<Ledger>>(probe: &mut P, rule: &Rule) -> Result<Tested, Fail> {
+fn probed<P: Probe<Uncounted>>(probe: &mut P, rule: &Rule) -> Result<Tested, Fail> {
     let mut steps = Steps::start();
     let host = make_host()?;
     let found = probe.test(rule, &NoTables, &host, &mut steps);
@@ -472,7 +472,7 @@ fn match_rules_set_tags_and_parameters(rt: HostRuntime) -> Result<(), Fail> {
 }
 
 // The marks of a probe, before and after one is set.
-fn marked<P: Probe<Ledger>>(probe: &mut P) -> (Marks, Marks) {
+fn marked<P: Probe<Uncounted>>(probe: &mut P) -> (Marks, Marks) {
     let first = probe.marks();
     probe.set_marks(Marks {
         matched: true,
@@ -482,7 +482,7 @@ fn marked<P: Probe<Ledger>>(probe: &mut P) -> (Marks, Marks) {
 }
 
 // Whether a probe is on the interface tun0 or on this one.
-fn skipped<P: Probe<Ledger>>(probe: &P, iface: &str) -> Result<bool, Fail> {
+fn skipped<P: Probe<Uncounted>>(probe: &P, iface: &str) -> Result<bool, Fail> {
     let names = [name("tun0")?, name(iface)?];
     let host = make_host()?;
     Ok(probe.skips(&names, &host))
