@@ -3,6 +3,7 @@ pub mod Around
 pub mod Criteria
 pub mod Deciding
 pub mod Effect
+pub mod Fields
 pub mod Hit
 pub mod Laying
 pub mod Opening
