@@ -1,7 +1,7 @@
 use Rattle.std.proofs.Common.{◌≡◌, ◌++◌, drop, false, map}
-use Rattle.pf_record.specs.Appending.{Extends}
-use Rattle.pf_record.specs.Items.{part_of, rest_text}
-use Rattle.pf_record.proofs.item.put_in_brackets.Given as goal
+use Rattle.pf_parts.specs.Appending.{Extends}
+use Rattle.pf_parts.specs.Items.{part_of, rest_text}
+use Rattle.pf_parts.proofs.item.put_in_brackets.Given as goal
 
 -- what is appended so far and what is still to append are the whole list
 abbrev pub invariant-loop-item : goal.invariant-loop-item

@@ -1,7 +1,7 @@
 use Rattle.std.proofs.Common.{append_assoc}
 use Rattle.std.proofs.lemmas.Bool.{ne_eqb}
-use Rattle.pf_record.specs.AnswerText.{block_text}
-use Rattle.pf_record.proofs.answer.put_reset.Goals as goal
+use Rattle.pf_parts.specs.BlockText.{block_text}
+use Rattle.pf_parts.proofs.block_text.put_reset.Goals as goal
 
 pub returns-in_ok-put-2-clause-ok : goal.returns-in_ok-put-2-clause-ok
 unfolding block_text

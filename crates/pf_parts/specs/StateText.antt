@@ -1,16 +1,16 @@
 -- How the state of a rule or an answer is printed (pf.conf(5), STATEFUL FILTERING).
 use Rattle.std.specs.Prelude.{ℕ, List, [], ◌∷◌, ◌++◌, Option, Some, codes, decimal}
 use Rattle.std.specs.Option.{option_map}
-use Rattle.pf_rule.specs.declared.state.StateKind.{StateKind}
-use Rattle.pf_rule.specs.declared.state.StateKind.TheVariants as state
-use Rattle.pf_rule.specs.declared.state.StateOptions.{StateOptions}
-use Rattle.pf_rule.specs.declared.state.Track.{Track}
-use Rattle.pf_rule.specs.declared.state.Track.TheVariants as track
-use Rattle.pf_rule.specs.declared.state.Rate.{Rate}
-use Rattle.pf_rule.specs.declared.state.Overload.{Overload}
-use Rattle.pf_rule.specs.declared.state.Flush.{Flush}
-use Rattle.pf_rule.specs.declared.state.Flush.TheVariants as flush
-use Rattle.pf_record.specs.Parts.{joined, in_brackets, word_if, with_number}
+use Rattle.pf_parts.specs.declared.state.StateKind.{StateKind}
+use Rattle.pf_parts.specs.declared.state.StateKind.TheVariants as state
+use Rattle.pf_parts.specs.declared.state.StateOptions.{StateOptions}
+use Rattle.pf_parts.specs.declared.state.Track.{Track}
+use Rattle.pf_parts.specs.declared.state.Track.TheVariants as track
+use Rattle.pf_parts.specs.declared.state.Rate.{Rate}
+use Rattle.pf_parts.specs.declared.state.Overload.{Overload}
+use Rattle.pf_parts.specs.declared.state.Flush.{Flush}
+use Rattle.pf_parts.specs.declared.state.Flush.TheVariants as flush
+use Rattle.pf_parts.specs.Parts.{joined, in_brackets, word_if, with_number}
 
 abbrev pub kind_text : StateKind → List ℕ
 kind_text state.None = codes "no state"

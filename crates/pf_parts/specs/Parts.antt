@@ -1,11 +1,16 @@
 -- Texts of parts, each of which may be left out.
-use Rattle.std.specs.Prelude.{ℕ, Bool, List, ◌++◌, Option, Some, None, is_some, if◌then◌else◌, codes, decimal}
+use Rattle.std.specs.Prelude.{ℕ, Bool, List, [], ◌++◌, Option, Some, None, is_some, if◌then◌else◌, codes, decimal}
 use Rattle.std.specs.List.{filter_map, join_by, list_any}
 use Rattle.std.specs.Option.{option_map}
 
 -- those that stand, with this between them
 abbrev pub joined : List ℕ → List (Option (List ℕ)) → List ℕ
 joined between parts = join_by (λ part. part) between (filter_map (λ part. part) parts)
+
+-- a part with a space before it, where it stands
+abbrev pub spaced : Option (List ℕ) → List ℕ
+spaced None = []
+spaced (Some part) = codes " " ++ part
 
 -- in brackets those that stand, where one does
 abbrev pub in_brackets : List (Option (List ℕ)) → Option (List ℕ)

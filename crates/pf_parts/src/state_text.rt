@@ -1,14 +1,14 @@
 //! The text of a state (pf.conf(5), STATEFUL FILTERING).
 ghost use Rattle.std.specs.Prelude.{◌≡◌, ◌++◌, OnOk, map};
 ghost use Rattle.std.specs.Option.{option_map};
-ghost use Rattle.pf_record.specs.Appending.{Extends};
-ghost use Rattle.pf_record.specs.Items.{part_of};
-ghost use Rattle.pf_record.specs.StateText.{kind_text, option_parts, overload_text, rate_text, state_text, track_text};
+ghost use Rattle.pf_parts.specs.Appending.{Extends};
+ghost use Rattle.pf_parts.specs.Items.{part_of};
+ghost use Rattle.pf_parts.specs.StateText.{kind_text, option_parts, overload_text, rate_text, state_text, track_text};
 
 use crate::item::{Item, number_item, put_in_brackets, word_item};
+use crate::state::{Overload, Rate, StateKind, StateOptions, Track};
 use crate::text::put;
 use pf_base::NoMemory;
-use pf_rule::{Overload, Rate, StateKind, StateOptions, Track};
 
 fn kind_word(kind: StateKind) -> &'static [u8]
     ensures { result.now ≡ kind_text kind }
@@ -69,11 +69,7 @@ fn option_items(options: &StateOptions) -> [Option<Item>; 11]
 /// Appends `no state`, `keep state`, `modulate state` or `synproxy state`, and its options in brackets.
 /// Without memory a front of this may be appended.
 #[tactic(auto, unfolding(crate::specs::StateText::state_text))]
-pub(crate) fn put_state(
-    out: &mut Vec<u8>,
-    kind: StateKind,
-    options: &StateOptions,
-) -> Result<(), NoMemory>
+pub fn put_state(out: &mut Vec<u8>, kind: StateKind, options: &StateOptions) -> Result<(), NoMemory>
     ensures ok { OnOk result (out.new.items ≡ out.old.items ++ state_text kind options.now) }
     ensures kept { Extends out.old.items out.new.items }
 {

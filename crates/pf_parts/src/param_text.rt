@@ -3,16 +3,16 @@
 ghost use Rattle.std.specs.Prelude.{◌≡◌, ◌++◌, OnOk, codes, decimal, is_some, map};
 ghost use Rattle.std.specs.List.{list_any};
 ghost use Rattle.std.specs.Option.{option_map};
-ghost use Rattle.pf_record.specs.Appending.{Extends};
-ghost use Rattle.pf_record.specs.Items.{part_of, spaced};
-ghost use Rattle.pf_record.specs.NameText.{name_text};
-ghost use Rattle.pf_record.specs.ParamText.{label_text, log_parts, log_text, prio_text, queue_text, scrub_parts, scrub_text, tag_text};
-ghost use Rattle.pf_record.specs.Parts.{with_number, with_pair, word_if};
+ghost use Rattle.pf_parts.specs.Appending.{Extends};
+ghost use Rattle.pf_parts.specs.Items.{part_of};
+ghost use Rattle.pf_parts.specs.NameText.{name_text};
+ghost use Rattle.pf_parts.specs.ParamText.{label_text, log_parts, log_text, prio_text, queue_text, scrub_parts, scrub_text, tag_text};
+ghost use Rattle.pf_parts.specs.Parts.{spaced, with_number, with_pair, word_if};
 
 use crate::item::{Item, number_item, put_in_brackets, word_item};
+use crate::params::{Log, Prios, Queues, Scrub};
 use crate::text::{put, put_named, put_numbered, put_quoted};
 use pf_base::{Name, NoMemory};
-use pf_rule::{Log, Prios, Queues, Scrub};
 
 // `to` and an interface's name.
 fn to_item(name: &Option<Name>) -> Option<Item>
@@ -37,7 +37,7 @@ fn log_items(log: &Log) -> [Option<Item>; 4]
 
 /// Appends `log`, and in brackets how, where packets are logged.
 #[tactic(auto, unfolding(crate::specs::ParamText::log_text))]
-pub(crate) fn put_log(out: &mut Vec<u8>, log: &Log) -> Result<(), NoMemory>
+pub fn put_log(out: &mut Vec<u8>, log: &Log) -> Result<(), NoMemory>
     ensures ok { OnOk result (out.new.items ≡ out.old.items ++ spaced (log_text log.now)) }
     ensures kept { Extends out.old.items out.new.items }
 {
@@ -50,7 +50,7 @@ pub(crate) fn put_log(out: &mut Vec<u8>, log: &Log) -> Result<(), NoMemory>
 
 /// Appends `tag` and its name.
 #[tactic(auto, unfolding(crate::specs::ParamText::tag_text))]
-pub(crate) fn put_tag(out: &mut Vec<u8>, tag: &Option<Name>) -> Result<(), NoMemory>
+pub fn put_tag(out: &mut Vec<u8>, tag: &Option<Name>) -> Result<(), NoMemory>
     ensures ok { OnOk result (out.new.items ≡ out.old.items ++ spaced (option_map tag_text tag.now)) }
     ensures kept { Extends out.old.items out.new.items }
 {
@@ -78,7 +78,7 @@ fn put_queues(out: &mut Vec<u8>, queues: &Queues) -> Result<(), NoMemory>
 }
 
 /// Appends `queue` and one queue, or two in brackets.
-pub(crate) fn put_queue(out: &mut Vec<u8>, queues: &Option<Queues>) -> Result<(), NoMemory>
+pub fn put_queue(out: &mut Vec<u8>, queues: &Option<Queues>) -> Result<(), NoMemory>
     ensures ok { OnOk result (out.new.items ≡ out.old.items ++ spaced (option_map queue_text queues.now)) }
     ensures kept { Extends out.old.items out.new.items }
 {
@@ -107,7 +107,7 @@ fn put_prios(out: &mut Vec<u8>, prios: Prios) -> Result<(), NoMemory>
 }
 
 /// Appends `prio` and one priority, or two in brackets.
-pub(crate) fn put_prio(out: &mut Vec<u8>, prios: Option<Prios>) -> Result<(), NoMemory>
+pub fn put_prio(out: &mut Vec<u8>, prios: Option<Prios>) -> Result<(), NoMemory>
     ensures ok { OnOk result (out.new.items ≡ out.old.items ++ spaced (option_map prio_text prios)) }
     ensures kept { Extends out.old.items out.new.items }
 {
@@ -119,7 +119,7 @@ pub(crate) fn put_prio(out: &mut Vec<u8>, prios: Option<Prios>) -> Result<(), No
 }
 
 /// Appends `tos` and its number.
-pub(crate) fn put_tos(out: &mut Vec<u8>, tos: Option<u8>) -> Result<(), NoMemory>
+pub fn put_tos(out: &mut Vec<u8>, tos: Option<u8>) -> Result<(), NoMemory>
     ensures ok { OnOk result (out.new.items ≡ out.old.items ++ spaced (with_number (codes "tos") tos)) }
     ensures kept { Extends out.old.items out.new.items }
 {
@@ -166,7 +166,7 @@ fn is_scrubbed(scrub: &Scrub) -> bool
 
 /// Appends `scrub` and in brackets how, where anything is normalised.
 #[tactic(auto, unfolding(crate::specs::ParamText::scrub_text))]
-pub(crate) fn put_scrub(out: &mut Vec<u8>, scrub: &Scrub) -> Result<(), NoMemory>
+pub fn put_scrub(out: &mut Vec<u8>, scrub: &Scrub) -> Result<(), NoMemory>
     ensures ok { OnOk result (out.new.items ≡ out.old.items ++ spaced (scrub_text scrub.now)) }
     ensures kept { Extends out.old.items out.new.items }
 {
@@ -178,7 +178,7 @@ pub(crate) fn put_scrub(out: &mut Vec<u8>, scrub: &Scrub) -> Result<(), NoMemory
 }
 
 /// Appends `allow-opts` where it is set.
-pub(crate) fn put_allow_opts(out: &mut Vec<u8>, allowed: bool) -> Result<(), NoMemory>
+pub fn put_allow_opts(out: &mut Vec<u8>, allowed: bool) -> Result<(), NoMemory>
     ensures ok { OnOk result (out.new.items ≡ out.old.items ++ spaced (word_if allowed (codes "allow-opts"))) }
     ensures kept { Extends out.old.items out.new.items }
 {
@@ -190,7 +190,7 @@ pub(crate) fn put_allow_opts(out: &mut Vec<u8>, allowed: bool) -> Result<(), NoM
 
 /// Appends `label` and its text in double quotes.
 #[tactic(auto, unfolding(crate::specs::ParamText::label_text))]
-pub(crate) fn put_label(out: &mut Vec<u8>, label: &Option<Name>) -> Result<(), NoMemory>
+pub fn put_label(out: &mut Vec<u8>, label: &Option<Name>) -> Result<(), NoMemory>
     ensures ok { OnOk result (out.new.items ≡ out.old.items ++ spaced (option_map label_text label.now)) }
     ensures kept { Extends out.old.items out.new.items }
 {

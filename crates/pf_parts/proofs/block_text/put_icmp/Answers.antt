@@ -1,6 +1,6 @@
 use Rattle.std.proofs.Common.{append_assoc}
-use Rattle.pf_record.specs.AnswerText.{block_text}
-use Rattle.pf_record.proofs.answer.put_icmp.Goals as goal
+use Rattle.pf_parts.specs.BlockText.{block_text}
+use Rattle.pf_parts.proofs.block_text.put_icmp.Goals as goal
 
 pub returns-clause-ok : goal.returns-clause-ok
 unfolding block_text

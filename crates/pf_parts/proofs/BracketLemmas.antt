@@ -2,9 +2,9 @@
 use Rattle.std.proofs.Common.{◌≡◌, ℕ, ◌≤◌, Bool, true, false, List, [], ◌∷◌, ◌++◌, Option, Some, None, length, drop, map, codes, refl, ap, sym, ◌∙◌, append_assoc}
 use Rattle.std.specs.List.{filter_map, flat_map}
 use Rattle.std.proofs.lemmas.List.{append-nil, drop_all}
-use Rattle.pf_record.specs.declared.item.Item.{Item}
-use Rattle.pf_record.specs.Items.{part_of, rest_text, spaced}
-use Rattle.pf_record.specs.Parts.{in_brackets}
+use Rattle.pf_parts.specs.declared.item.Item.{Item}
+use Rattle.pf_parts.specs.Items.{part_of, rest_text}
+use Rattle.pf_parts.specs.Parts.{in_brackets, spaced}
 
 -- the parts that stand, each behind a comma
 abbrev behind_commas : List (Option (List ℕ)) → List ℕ

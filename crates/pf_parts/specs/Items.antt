@@ -1,10 +1,10 @@
 -- What is printed between brackets, as the code has it.
 use Rattle.std.specs.Prelude.{ℕ, Bool, true, List, [], ◌∷◌, ◌++◌, Option, Some, None, codes, decimal, if◌then◌else◌}
 use Rattle.std.specs.Option.{option_map}
-use Rattle.pf_record.specs.declared.item.Item.{Item}
-use Rattle.pf_record.specs.declared.item.Item.TheVariants.{Word, Number, Named, PerSeconds, Table}
-use Rattle.pf_record.specs.NameText.{name_text}
-use Rattle.pf_record.specs.StateText.{rate_text, overload_text}
+use Rattle.pf_parts.specs.declared.item.Item.{Item}
+use Rattle.pf_parts.specs.declared.item.Item.TheVariants.{Word, Number, Named, PerSeconds, Table}
+use Rattle.pf_parts.specs.NameText.{name_text}
+use Rattle.pf_parts.specs.StateText.{rate_text, overload_text}
 
 abbrev pub item_text : Item → List ℕ
 item_text (Word word) = word.now
@@ -15,11 +15,6 @@ item_text (Table overload) = overload_text overload
 
 abbrev pub part_of : Option Item → Option (List ℕ)
 part_of item = option_map item_text item
-
--- a part with a space before it, where it stands
-abbrev pub spaced : Option (List ℕ) → List ℕ
-spaced None = []
-spaced (Some part) = codes " " ++ part
 
 -- what is still to print of items in brackets, of which some are printed or none
 abbrev pub rest_text : Bool → List (Option (List ℕ)) → List ℕ

@@ -1,13 +1,13 @@
 //! Lists in brackets, of items that may be left out.
 ghost use Rattle.std.specs.Prelude.{◌≡◌, ◌++◌, OnOk, map, codes, if◌then◌else◌};
-ghost use Rattle.pf_record.specs.Appending.{Extends};
-ghost use Rattle.pf_record.specs.Items.{item_text, part_of, spaced};
-ghost use Rattle.pf_record.specs.Parts.{in_brackets, with_number, word_if};
-ghost use Rattle.pf_record.specs.StateText.{flush_text, overload_text, rate_text};
+ghost use Rattle.pf_parts.specs.Appending.{Extends};
+ghost use Rattle.pf_parts.specs.Items.{item_text, part_of};
+ghost use Rattle.pf_parts.specs.Parts.{in_brackets, spaced, with_number, word_if};
+ghost use Rattle.pf_parts.specs.StateText.{flush_text, overload_text, rate_text};
 
+use crate::state::{Flush, Overload, Rate};
 use crate::text::{put, put_named, put_numbered};
 use pf_base::{Name, NoMemory};
-use pf_rule::{Flush, Overload, Rate};
 
 /// What stands between brackets.
 #[derive(Clone, Copy)]

@@ -1,14 +1,14 @@
 //! Texts of names and numbers, appended to a buffer.
 ghost use Rattle.std.specs.Prelude.{◌≡◌, ◌++◌, OnOk, decimal};
 ghost use Rattle.std.specs.List.{list_all};
-ghost use Rattle.pf_record.specs.Appending.{Extends};
-ghost use Rattle.pf_record.specs.NameText as names;
+ghost use Rattle.pf_parts.specs.Appending.{Extends};
+ghost use Rattle.pf_parts.specs.NameText as names;
 
 use itoa::Buffer;
 use pf_base::{Name, NoMemory};
 
 /// Appends these bytes. What stood in the buffer before still stands in front, also without memory.
-pub(crate) fn put(out: &mut Vec<u8>, bytes: &[u8]) -> Result<(), NoMemory>
+pub fn put(out: &mut Vec<u8>, bytes: &[u8]) -> Result<(), NoMemory>
     ensures ok { OnOk result (out.new.items ≡ out.old.items ++ bytes.now) }
     ensures kept { Extends out.old.items out.new.items }
 {
@@ -17,7 +17,7 @@ pub(crate) fn put(out: &mut Vec<u8>, bytes: &[u8]) -> Result<(), NoMemory>
 }
 
 /// Appends a number in decimal.
-pub(crate) fn put_number(out: &mut Vec<u8>, number: u32) -> Result<(), NoMemory>
+pub fn put_number(out: &mut Vec<u8>, number: u32) -> Result<(), NoMemory>
     ensures ok { OnOk result (out.new.items ≡ out.old.items ++ decimal number) }
     ensures kept { Extends out.old.items out.new.items }
 {
@@ -70,7 +70,7 @@ fn is_bare(name: &[u8]) -> bool
 }
 
 /// Appends the bytes in double quotes.
-pub(crate) fn put_quoted(out: &mut Vec<u8>, bytes: &[u8]) -> Result<(), NoMemory>
+pub fn put_quoted(out: &mut Vec<u8>, bytes: &[u8]) -> Result<(), NoMemory>
     ensures ok { OnOk result (out.new.items ≡ out.old.items ++ names.quoted bytes.now) }
     ensures kept { Extends out.old.items out.new.items }
 {
@@ -81,7 +81,7 @@ pub(crate) fn put_quoted(out: &mut Vec<u8>, bytes: &[u8]) -> Result<(), NoMemory
 }
 
 /// Appends a name, in double quotes where it isn't read back as itself without them.
-pub(crate) fn put_name(out: &mut Vec<u8>, name: &Name) -> Result<(), NoMemory>
+pub fn put_name(out: &mut Vec<u8>, name: &Name) -> Result<(), NoMemory>
     ensures ok { OnOk result (out.new.items ≡ out.old.items ++ names.name_text name.now) }
     ensures kept { Extends out.old.items out.new.items }
 {
@@ -94,7 +94,7 @@ pub(crate) fn put_name(out: &mut Vec<u8>, name: &Name) -> Result<(), NoMemory>
 }
 
 /// Appends these bytes and a name.
-pub(crate) fn put_named(out: &mut Vec<u8>, before: &[u8], name: &Name) -> Result<(), NoMemory>
+pub fn put_named(out: &mut Vec<u8>, before: &[u8], name: &Name) -> Result<(), NoMemory>
     ensures ok { OnOk result (out.new.items ≡ out.old.items ++ (before.now ++ names.name_text name.now)) }
     ensures kept { Extends out.old.items out.new.items }
 {
@@ -104,7 +104,7 @@ pub(crate) fn put_named(out: &mut Vec<u8>, before: &[u8], name: &Name) -> Result
 }
 
 /// Appends these bytes and a number in decimal.
-pub(crate) fn put_numbered(out: &mut Vec<u8>, before: &[u8], number: u32) -> Result<(), NoMemory>
+pub fn put_numbered(out: &mut Vec<u8>, before: &[u8], number: u32) -> Result<(), NoMemory>
     ensures ok { OnOk result (out.new.items ≡ out.old.items ++ (before.now ++ decimal number)) }
     ensures kept { Extends out.old.items out.new.items }
 {

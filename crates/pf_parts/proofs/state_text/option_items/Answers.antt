@@ -1,6 +1,6 @@
 use Rattle.std.proofs.Common.{[], ◌∷◌}
-use Rattle.pf_record.specs.StateText.{option_parts}
-use Rattle.pf_record.proofs.state.option_items.Goals as goal
+use Rattle.pf_parts.specs.StateText.{option_parts}
+use Rattle.pf_parts.proofs.state_text.option_items.Goals as goal
 
 pub returns : goal.returns
 unfolding option_parts

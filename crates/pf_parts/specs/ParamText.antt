@@ -1,12 +1,12 @@
 -- How the parameters of a rule or an answer are printed (pf.conf(5), PARAMETERS and TRAFFIC NORMALISATION).
 use Rattle.std.specs.Prelude.{ℕ, List, [], ◌∷◌, ◌++◌, Option, Some, None, if◌then◌else◌, codes, decimal}
 use Rattle.std.specs.Option.{option_map}
-use Rattle.pf_rule.specs.declared.params.Log.{Log}
-use Rattle.pf_rule.specs.declared.params.Prios.{Prios}
-use Rattle.pf_rule.specs.declared.params.Queues.{Queues}
-use Rattle.pf_rule.specs.declared.params.Scrub.{Scrub}
-use Rattle.pf_record.specs.NameText.{name_text, quoted}
-use Rattle.pf_record.specs.Parts.{joined, in_brackets, word_if, with_number, with_pair}
+use Rattle.pf_parts.specs.declared.params.Log.{Log}
+use Rattle.pf_parts.specs.declared.params.Prios.{Prios}
+use Rattle.pf_parts.specs.declared.params.Queues.{Queues}
+use Rattle.pf_parts.specs.declared.params.Scrub.{Scrub}
+use Rattle.pf_parts.specs.NameText.{name_text, quoted}
+use Rattle.pf_parts.specs.Parts.{joined, in_brackets, word_if, with_number, with_pair}
 
 abbrev pub log_parts : Log → List (Option (List ℕ))
 log_parts log =

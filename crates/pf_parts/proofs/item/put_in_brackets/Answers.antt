@@ -1,6 +1,6 @@
 use Rattle.std.proofs.Common.{arith}
-use Rattle.pf_record.proofs.BracketLemmas.{closed, left_out}
-use Rattle.pf_record.proofs.item.put_in_brackets.Goals as goal
+use Rattle.pf_parts.proofs.BracketLemmas.{closed, left_out}
+use Rattle.pf_parts.proofs.item.put_in_brackets.Goals as goal
 
 pub returns-in_ok-put-clause-ok : goal.returns-in_ok-put-clause-ok
 returns-in_ok-put-clause-ok c =
