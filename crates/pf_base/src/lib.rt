@@ -1,6 +1,7 @@
-//! The base of all crates: names, lists and texts, places in files, the kinds of faults of a file,
-//! the counter of tests, and what several formats share (lines, words and numbers of a text).
-//! It stands on std alone. The layers above use its types and read texts by its definitions.
+//! The base of all crates: names, lists and texts, places in files, the kinds of faults of a file, the
+//! counter of tests and its ledgers, decided equality, laws of ordered maps, and what several formats share
+//! (lines, words and numbers of a text). It stands on std alone. The layers above use its types, read texts
+//! by its definitions, and call its laws.
 #![tactic(auto)]
 
 pub mod fault;
@@ -31,3 +32,5 @@ pub use steps::{Ledger, Steps, Uncounted};
 
 #[cfg(test)]
 mod path_tests;
+#[cfg(test)]
+mod tests;

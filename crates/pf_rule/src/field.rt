@@ -9,10 +9,10 @@ ghost use Rattle.pf_rule.specs.declared.packet.Packet.{Packet as AnyPacket};
 ghost use Rattle.pf_rule.specs.declared.rule.Rule.{Rule as FilterRule};
 ghost use Rattle.pf_rule.specs.declared.walk.Walk.{Walk as PacketWalk};
 
-use crate::criteria::{AddrTest, Criteria, IfTest};
-use crate::packet::Direction;
+use crate::criteria::{AddrTest, Criteria};
 use pf_base::Family;
 use pf_ops::Op16;
+use pf_parts::{Direction, IfTest};
 
 /// The value of a skip field.
 #[derive(Clone, Copy, Debug)]

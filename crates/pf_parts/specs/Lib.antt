@@ -1,0 +1,9 @@
+pub mod Appending
+pub mod BlockText
+pub mod Defaults
+pub mod Items
+pub mod Laying
+pub mod NameText
+pub mod ParamText
+pub mod Parts
+pub mod StateText
