@@ -1,6 +1,7 @@
 pub mod Appending
 pub mod BlockText
 pub mod Defaults
+pub mod Equal
 pub mod Items
 pub mod Laying
 pub mod NameText

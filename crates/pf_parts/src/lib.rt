@@ -10,6 +10,7 @@ pub mod block;
 pub mod block_text;
 pub mod call;
 pub mod direction;
+mod equal;
 pub mod item;
 pub mod matching;
 pub mod param_text;
