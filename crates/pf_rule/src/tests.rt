@@ -1,7 +1,11 @@
+ghost use Rattle.std.specs.Prelude.{◌<◌};
+
 use crate::*;
 use pf_addr::{Addr, DynIf, Ifaces, Prefix, Range, parse_addr, parse_prefix};
-use pf_base::{Family, Name, Steps, Uncounted};
+use pf_base::{Family, Name, Path, Same, Steps, Uncounted};
 use pf_ops::{IcmpType, Op16, Op32, OpKind, TcpFlags};
+use std::alloc::Global;
+use std::collections::HashMap;
 use std::test::Fail;
 
 // A host whose interfaces are all in one group and have the addresses of one network.
@@ -835,6 +839,48 @@ fn skip_fields_have_values(rt: HostRuntime) -> Result<(), Fail> {
             _ => false,
         };
         assert_eq!(rt; given, field == 3 || field == 7, "{field}");
+    }
+    Ok(())
+}
+
+#[test]
+fn rules_are_one_where_all_is_equal(rt: HostRuntime) -> Result<(), Fail> {
+    let rules = default_rules()?;
+    for (i, one) in rules.iter().enumerate() {
+        for (j, other) in rules.iter().enumerate() {
+            assert_eq!(rt; one.is_one_with(other), i == j, "{i} {j}");
+        }
+    }
+    let mut effect = PASS;
+    effect.params.log.to = Some(name("pflog1")?);
+    assert!(rt; !effect.is_one_with(&PASS));
+    let call = Call {
+        base: Base::Below,
+        path: Path::main(),
+        children: false,
+    };
+    let anchor = Action::Anchor(call);
+    assert!(rt; anchor.is_one_with(&anchor));
+    assert!(rt; !anchor.is_one_with(&Action::Match));
+    Ok(())
+}
+
+// How many distinct values of a skip field the default rules have.
+fn distinct(alloc: Global, field: u8) -> Result<usize, Fail>
+    requires { field < 8 }
+{
+    let rules = default_rules()?;
+    let mut seen = HashMap::new(alloc);
+    for rule in &rules {
+        seen.insert(rule.criteria.field_value(field), field)?;
+    }
+    Ok(seen.len())
+}
+
+#[test]
+fn equal_values_are_found_in_a_map(rt: HostRuntime) -> Result<(), Fail> {
+    for (field, count) in [(0, 2), (1, 3), (2, 1), (3, 2), (4, 1), (7, 2)] {
+        assert_eq!(rt; distinct(rt.alloc(), field)?, count, "{field}");
     }
     Ok(())
 }
