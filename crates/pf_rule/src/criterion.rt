@@ -6,18 +6,11 @@ ghost use Rattle.pf_rule.specs.Criteria.{address_holds, direction_holds, family_
 use crate::criteria::{AddrSet, AddrTest, Criteria};
 use crate::members::Members;
 use crate::packet::Packet;
+use crate::protocol::{ICMP, ICMP6, TCP, UDP};
 use pf_addr::{Addr, Ifaces};
 use pf_base::Name;
 use pf_ops::{IcmpType, Op16, Op32};
 use pf_parts::{IfTest, TagTest};
-
-const TCP: u8 = 6;
-
-const UDP: u8 = 17;
-
-const ICMP: u8 = 1;
-
-const ICMP6: u8 = 58;
 
 pub(crate) fn interface_holds<I: Ifaces>(test: &IfTest, iface: &Name, ifaces: &I) -> bool
     ensures { result ≡ on_interface (I.in_group ifaces.now) test.now iface.now }

@@ -18,6 +18,7 @@ pub mod members;
 pub mod packet;
 pub mod params;
 pub mod probe;
+pub mod protocol;
 pub mod reply;
 pub mod rule;
 pub mod testing;
@@ -38,12 +39,13 @@ pub use pf_parts::{
     StateKind, StateOptions, TagTest, Track,
 };
 pub use probe::Probe;
+pub use protocol::{ICMP, ICMP6, TCP, UDP};
 pub use reply::answer;
 pub use rule::Rule;
 pub use testing::{Tested, hit};
 pub use translation::Target;
 pub use walk::{Answer, Decision, Marks, Walk};
-pub use walking::laws_of_walks;
+pub use walking::{laws_of_walks, views_walk_alike};
 
 #[cfg(test)]
 mod tests;
