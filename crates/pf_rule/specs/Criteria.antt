@@ -2,12 +2,10 @@
 -- tag that the packet has at the moment, and what stands around the rules, and nothing else.
 use Rattle.std.specs.Prelude.{ℕ, List, Bool, true, false, not, ◌&&◌, ◌||◌, ◌==◌, Option, Some, None, bit_and, if◌then◌else◌}
 use Rattle.std.specs.Str.{bytes_eq}
+use Rattle.pf_addr.specs.Addr.{is_of_family}
 use Rattle.pf_addr.specs.Prefix as prefixes
 use Rattle.pf_addr.specs.Range as ranges
 use Rattle.pf_addr.specs.declared.addr.Addr.{Addr}
-use Rattle.pf_addr.specs.declared.addr.Addr.TheVariants.{V4, V6}
-use Rattle.pf_base.specs.declared.kind.Family.{Family}
-use Rattle.pf_base.specs.declared.kind.Family.TheVariants.{Inet, Inet6}
 use Rattle.pf_ops.specs.Numbers.{in_numbers}
 use Rattle.pf_ops.specs.declared.flags.IcmpType.{IcmpType}
 use Rattle.pf_ops.specs.declared.numbers.Numbers.{Numbers}
@@ -17,12 +15,12 @@ use Rattle.pf_rule.specs.declared.criteria.AddrSet.TheVariants.{Prefix, Range, T
 use Rattle.pf_rule.specs.declared.criteria.AddrTest.{AddrTest}
 use Rattle.pf_rule.specs.declared.criteria.AddrTest.TheVariants as address
 use Rattle.pf_rule.specs.declared.criteria.Criteria.{Criteria}
-use Rattle.pf_rule.specs.declared.criteria.IfTest.{IfTest}
-use Rattle.pf_rule.specs.declared.criteria.IfTest.TheVariants as interface
-use Rattle.pf_rule.specs.declared.criteria.TagTest.{TagTest}
-use Rattle.pf_rule.specs.declared.criteria.TagTest.TheVariants as tag
-use Rattle.pf_rule.specs.declared.packet.Direction.{Direction}
-use Rattle.pf_rule.specs.declared.packet.Direction.TheVariants.{In, Out}
+use Rattle.pf_parts.specs.declared.matching.IfTest.{IfTest}
+use Rattle.pf_parts.specs.declared.matching.IfTest.TheVariants as interface
+use Rattle.pf_parts.specs.declared.matching.TagTest.{TagTest}
+use Rattle.pf_parts.specs.declared.matching.TagTest.TheVariants as tag
+use Rattle.pf_parts.specs.declared.direction.Direction.{Direction}
+use Rattle.pf_parts.specs.declared.direction.Direction.TheVariants.{In, Out}
 use Rattle.pf_rule.specs.declared.packet.Packet.{Packet}
 
 -- a criterion that isn't given holds for every packet
@@ -77,12 +75,6 @@ abbrev pub direction_holds : Criteria → Packet → Bool
 direction_holds criteria packet = if_given criteria.direction (λ direction. same_direction direction packet.direction)
 
 -- `inet` and `inet6`: the packet is of this family, which is that of its source
-abbrev pub is_of_family : Family → Addr → Bool
-is_of_family Inet (V4 n) = true
-is_of_family Inet (V6 n) = false
-is_of_family Inet6 (V4 n) = false
-is_of_family Inet6 (V6 n) = true
-
 abbrev pub family_holds : Criteria → Packet → Bool
 family_holds criteria packet = if_given criteria.family (λ family. is_of_family family packet.source)
 
