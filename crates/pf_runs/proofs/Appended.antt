@@ -1,6 +1,7 @@
 -- Lists of events, one after another.
-use Rattle.std.proofs.Common.{◌≡◌, Bool, true, false, ◌||◌, List, [], ◌∷◌, ◌++◌, refl, sym, ap, ◌∙◌, append_assoc}
-use Rattle.pf_runs.specs.Runs.{Disk, Step, Event, Follow, lines_in, HaveNoOutage, reply_text, machine_after, output, any_refused, unread}
+use Rattle.std.proofs.Common.{◌≡◌, ◌+◌, Bool, true, false, ◌||◌, List, [], ◌∷◌, ◌++◌, refl, sym, ap, ◌∙◌, append_assoc, add_assoc, zero-add}
+use Rattle.pf_source.specs.Disk.{Disk}
+use Rattle.pf_runs.specs.Runs.{Step, Event, Follow, lines_in, HaveNoOutage, reply_text, pieces_of, machine_after, output, count_writes, any_refused, unread}
 
 pub machine_after-append : {M : Type 0} (machine : M) (xs ys : List (Event M)) → machine_after machine (xs ++ ys) ≡ machine_after (machine_after machine xs) ys
 machine_after-append machine [] ys = refl
@@ -8,12 +9,17 @@ machine_after-append machine (x ∷ xs) ys = machine_after-append x.does.machine
 
 pub Follow-append : {M : Type 0} (step : Step M) (disk : Disk) (machine : M) (xs ys : List (Event M)) → Follow step disk machine xs → Follow step disk (machine_after machine xs) ys → Follow step disk machine (xs ++ ys)
 Follow-append step disk machine [] ys h k = k
-Follow-append step disk machine (x ∷ xs) ys h k = (h.0, Follow-append step disk x.does.machine xs ys h.1 k)
+Follow-append step disk machine (x ∷ xs) ys h k = (h.0, h.1, Follow-append step disk x.does.machine xs ys h.2 k)
 
 pub output-append : {M : Type 0} (xs ys : List (Event M)) → output (xs ++ ys) ≡ output xs ++ output ys
 output-append [] ys = refl
 output-append (x ∷ xs) ys =
     ap (λ rest. reply_text x.does.reply ++ rest) (output-append xs ys) ∙ sym (append_assoc (reply_text x.does.reply) (output xs) (output ys))
+
+pub count_writes-append : {M : Type 0} (xs ys : List (Event M)) → count_writes (xs ++ ys) ≡ count_writes xs + count_writes ys
+count_writes-append [] ys = sym (zero-add (count_writes ys))
+count_writes-append (x ∷ xs) ys =
+    ap (λ rest. pieces_of x.does.reply + rest) (count_writes-append xs ys) ∙ sym (add_assoc (pieces_of x.does.reply) (count_writes xs) (count_writes ys))
 
 pub unread-append : {M : Type 0} (xs ys : List (Event M)) → unread (xs ++ ys) ≡ unread xs ++ unread ys
 unread-append [] ys = refl

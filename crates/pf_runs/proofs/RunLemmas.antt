@@ -1,37 +1,27 @@
 -- A run goes on.
-use Rattle.std.proofs.Common.{◌≡◌, ℕ, ◌+◌, Bool, true, false, ◌||◌, List, [], ◌∷◌, ◌++◌, length, Option, Some, None, refl, sym, ap, ◌∙◌, subst, append_assoc, append-nil, arith, length-append}
+use Rattle.std.proofs.Common.{◌≡◌, ℕ, Bool, true, false, ◌||◌, List, [], ◌∷◌, ◌++◌, length, refl, sym, ap, ◌∙◌, subst, append_assoc, append-nil, add-zero, length-append}
 use Rattle.std.specs.Io.KnownBytes.{Appends}
-use Rattle.std.specs.Option.{option_map}
-use Rattle.pf_source.specs.Causes.{RoseBy}
-use Rattle.pf_source.specs.Files.{StaysHeld}
-use Rattle.pf_runs.specs.Runs.{Disk, Step, Event, Follow, World, AddsNames, Goes, Executes, Stops, StopsAt, Answers, Cause, Write_failed, Out_of_memory, lines_in, reply_text, machine_after, output, any_refused, unread}
-use Rattle.pf_runs.proofs.Appended.{machine_after-append, Follow-append, output-append, unread-append, any_refused-append, lines_in-append, HaveNoOutage-append, or_assoc}
+use Rattle.pf_source.specs.Asks.{Asks, StaysHeld}
+use Rattle.pf_source.specs.Causes.{CountsOn}
+use Rattle.pf_source.specs.Disk.{AreAbsent, Disk}
+use Rattle.pf_source.specs.Told.{FilesTold, file_of}
+use Rattle.pf_source.proofs.Asking.{AddsNames-more, CountsOn-more, CountsOn-none, RoseBy-more, nothing_asked}
+use Rattle.pf_source.proofs.Known.{Appends-more, Appends-nothing}
+use Rattle.pf_runs.specs.Runs.{Step, Event, Follow, World, Goes, Executes, Stops, StopsAt, Answers, Cause, Write_failed, Out_of_memory, lines_in, reply_text, pieces_of, machine_after, output, count_writes, any_refused, unread}
+use Rattle.pf_runs.proofs.Appended.{machine_after-append, Follow-append, output-append, count_writes-append, unread-append, any_refused-append, lines_in-append, HaveNoOutage-append, or_assoc}
 
-pub Appends-nothing : (written : Option (List ℕ)) → Appends written written []
-Appends-nothing None = tt
-Appends-nothing (Some bytes) = sym (append-nil bytes)
+pub AreAbsent-append : (disk : Disk) (xs ys : List (List ℕ)) → AreAbsent disk xs → AreAbsent disk ys → AreAbsent disk (xs ++ ys)
+AreAbsent-append disk [] ys h k = k
+AreAbsent-append disk (x ∷ xs) ys h k = (h.0, AreAbsent-append disk xs ys h.1 k)
 
-pub Appends-more : (a b c : Option (List ℕ)) (xs ys : List ℕ) → Appends a b xs → Appends b c ys → Appends a c (xs ++ ys)
-Appends-more None b c xs ys h k = tt
-Appends-more (Some first) None c xs ys h k = absurd h
-Appends-more (Some first) (Some second) None xs ys h k = absurd k
-Appends-more (Some first) (Some second) (Some third) xs ys h k = k ∙ (ap (λ rest. rest ++ ys) h ∙ append_assoc first xs ys)
-
-pub RoseBy-none : (n : ℕ) → RoseBy 0 n n
-RoseBy-none n = record { later = omega arith; by = omega arith }
-
-pub RoseBy-more : (a b x y z : ℕ) → RoseBy a x y → RoseBy b y z → RoseBy (a + b) x z
-RoseBy-more a b x y z h k =
-    let h_later = h.later in let h_by = h.by in let k_later = k.later in let k_by = k.by in
-    record { later = omega arith; by = omega arith }
-
-pub AddsNames-none : (names : Option (List (List ℕ))) → AddsNames [] names names
-AddsNames-none None = refl
-AddsNames-none (Some names) = ap (λ ns. Some ns) (sym (append-nil names))
-
-pub AddsNames-more : (xs ys : List (List ℕ)) (a b c : Option (List (List ℕ))) → AddsNames xs a b → AddsNames ys b c → AddsNames (xs ++ ys) a c
-AddsNames-more xs ys None b c h k = k ∙ ap (λ o. option_map (λ ns. ns ++ ys) o) h
-AddsNames-more xs ys (Some first) b c h k = k ∙ (ap (λ o. option_map (λ ns. ns ++ ys) o) h ∙ ap (λ ns. Some ns) (append_assoc first xs ys))
+-- one call asked, and then another
+pub asked_more : (xs ys : List (List ℕ)) (a b c : FilesTold) → Asks xs a b → Asks ys b c → Asks (xs ++ ys) a c
+asked_more xs ys a b c h k = record {
+  held = record { held = k.held.held ∙ h.held.held; steady = k.held.steady ∙ h.held.steady };
+  counted = rw (length-append xs ys) (RoseBy-more (length xs) (length ys) a.faults b.faults c.faults h.counted k.counted);
+  named = AddsNames-more xs ys a.failed b.failed c.failed h.named k.named;
+  steady = λ steady. record { at = λ held is. AreAbsent-append (file_of held) xs ys ((h.steady steady).at held is) ((k.steady (h.held.steady ∙ steady)).at held (h.held.held ∙ is)) };
+}
 
 or_false : (b : Bool) → (b || false) ≡ b
 or_false true = refl
@@ -43,9 +33,8 @@ goes_nowhere step disk world = record {
   machine = refl;
   refused = sym (or_false world.refused);
   written = Appends-nothing world.sink.written;
-  held = record { held = refl; steady = refl };
-  counted = RoseBy-none world.files.faults;
-  named = AddsNames-none world.files.failed;
+  writes = CountsOn-none world.sink.calls;
+  asks = nothing_asked world.files;
   sure = λ h. tt;
 }
 
@@ -55,10 +44,9 @@ goes_on step disk a b c xs ys h k = record {
   machine = k.machine ∙ (ap (λ machine. machine_after machine ys) h.machine ∙ sym (machine_after-append a.machine xs ys));
   refused = rw (any_refused-append xs ys, or_assoc a.refused (any_refused xs) (any_refused ys), ← h.refused) k.refused;
   written = rw (output-append xs ys) (Appends-more a.sink.written b.sink.written c.sink.written (output xs) (output ys) h.written k.written);
-  held = record { held = k.held.held ∙ h.held.held; steady = k.held.steady ∙ h.held.steady };
-  counted = rw (unread-append xs ys, length-append (unread xs) (unread ys)) (RoseBy-more (length (unread xs)) (length (unread ys)) a.files.faults b.files.faults c.files.faults h.counted k.counted);
-  named = rw (unread-append xs ys) (AddsNames-more (unread xs) (unread ys) a.files.failed b.files.failed c.files.failed h.named k.named);
-  sure = λ steady. HaveNoOutage-append xs ys (h.sure steady) (k.sure (h.held.steady ∙ steady));
+  writes = rw (count_writes-append xs ys) (CountsOn-more (count_writes xs) (count_writes ys) a.sink.calls b.sink.calls c.sink.calls h.writes k.writes);
+  asks = rw (unread-append xs ys) (asked_more (unread xs) (unread ys) a.files b.files c.files h.asks k.asks);
+  sure = λ steady. HaveNoOutage-append xs ys (h.sure steady) (k.sure (h.asks.held.steady ∙ steady));
 }
 
 pub executes_nothing : {M : Type 0} (step : Step M) (disk : Disk) (world : World M) → Executes step disk [] world world
@@ -79,7 +67,7 @@ stops_on step disk cause xs ys a b c h k = record {
   mid = k.mid;
   executes = executes_on step disk xs k.front a b k.mid h k.executes;
   stops = k.stops;
-  held = record { held = k.held.held ∙ h.goes.held.held; steady = k.held.steady ∙ h.goes.held.steady };
+  held = record { held = k.held.held ∙ h.goes.asks.held.held; steady = k.held.steady ∙ h.goes.asks.held.steady };
 }
 
 stops_at_more : {M : Type 0} (step : Step M) (disk : Disk) (cause : Cause) (rest more : List (List ℕ)) (b c : World M) → StopsAt step disk cause rest b c → StopsAt step disk cause (rest ++ more) b c
@@ -100,18 +88,17 @@ stops_sooner step disk cause xs ys a c h = record {
 }
 
 -- a line whose reply was written whole was executed
-pub executes_answered : {M : Type 0} (step : Step M) (disk : Disk) (line : List ℕ) (before after : World M) (reply : List ℕ) (refused : Bool) → Answers step disk line before.machine before.files after.machine after.files reply refused → after.refused ≡ (before.refused || refused) → Appends before.sink.written after.sink.written reply → Executes step disk (line ∷ []) before after
-executes_answered step disk line before after reply refused h r w = record {
+pub executes_answered : {M : Type 0} (step : Step M) (disk : Disk) (line : List ℕ) (before after : World M) (reply : List ℕ) (refused : Bool) → (h : Answers step disk line before.machine before.files after.machine after.files reply refused) → after.refused ≡ (before.refused || refused) → Appends before.sink.written after.sink.written reply → CountsOn (pieces_of h.does.reply) before.sink.calls after.sink.calls → Executes step disk (line ∷ []) before after
+executes_answered step disk line before after reply refused h r w calls = record {
   events = record { line = line; outage = h.outage; does = h.does } ∷ [];
   are = refl;
   goes = record {
-    follow = (h.steps, tt);
+    follow = (h.steps, h.lost, tt);
     machine = h.machine;
     refused = rw (or_false h.does.refused, ← h.refuses) r;
     written = rw (append-nil (reply_text h.does.reply), ← h.replies) w;
-    held = h.held;
-    counted = rw (append-nil h.does.unread) h.counted;
-    named = rw (append-nil h.does.unread) h.named;
+    writes = rw (add-zero (pieces_of h.does.reply)) calls;
+    asks = rw (append-nil h.does.unread) h.asks;
     sure = λ steady. (h.sure steady, tt);
   };
 }

@@ -1,15 +1,11 @@
 -- What a run over lines is, for any machine and any step of it.
-use Rattle.std.specs.Prelude.{◌≡◌, ℕ, ◌≤◌, Bool, true, false, ◌||◌, List, [], ◌∷◌, ◌++◌, length, take, map, Option, Some, None, nat_eq, if◌then◌else◌, option_map}
+use Rattle.std.specs.Prelude.{◌≡◌, ℕ, ◌+◌, ◌≤◌, Bool, true, false, ◌||◌, List, [], ◌∷◌, ◌++◌, take, map, Option, Some, None}
 use Rattle.std.specs.List.{flat_map}
-use Rattle.std.specs.Cmp.Lexicographic.{pointwise}
 use Rattle.std.specs.Io.KnownBytes.{Appends, Keeps}
-use Rattle.pf_source.specs.Causes.{RoseBy}
-use Rattle.pf_source.specs.Files.{StaysHeld}
+use Rattle.pf_source.specs.Asks.{Asks, StaysHeld}
+use Rattle.pf_source.specs.Causes.{CountsOn}
+use Rattle.pf_source.specs.Disk.{Disk, without}
 use Rattle.pf_source.specs.Told.{FilesTold, SinkTold}
-
--- What files hold: the bytes under each name, or None where a read fails
-abbrev pub Disk : Type 0
-Disk = List ℕ → Option (List ℕ)
 
 -- What one line does: the machine after it, the lines of the reply, whether it was refused, and the files it was
 -- refused for because they can't be read
@@ -23,10 +19,10 @@ pub record Stepped (M : Type 0) : Type 0 where
 abbrev pub Step : Type 0 → Type 1
 Step M = Disk → M → List ℕ → Stepped M → Type 0
 
--- An outage: the file of this name is as if absent
-abbrev pub without : Option (List ℕ) → Disk → Disk
-without None disk = disk
-without (Some absent) disk = λ name. if pointwise nat_eq name absent then None else disk name
+-- an outage is of the one file for which the line was refused
+abbrev pub IsOutage : Option (List ℕ) → List (List ℕ) → Type 0
+IsOutage None unread = Unit {0}
+IsOutage (Some name) unread = unread ≡ name ∷ []
 
 -- A line is executed, with an outage or none, and does this
 pub record Event (M : Type 0) : Type 0 where
@@ -41,14 +37,19 @@ abbrev pub HaveNoOutage : {M : Type 0} → List (Event M) → Type 0
 HaveNoOutage [] = Unit {0}
 HaveNoOutage (event ∷ events) = (event.outage ≡ None) × HaveNoOutage events
 
--- Each event does what the step relates, from the machine that the one before left
+-- Each event does what the step relates, from the machine that the one before left, over the files without its outage
 abbrev pub Follow : {M : Type 0} → Step M → Disk → M → List (Event M) → Type 0
 Follow step disk machine [] = Unit {0}
-Follow step disk machine (event ∷ events) = step (without event.outage disk) machine event.line event.does × Follow step disk event.does.machine events
+Follow step disk machine (event ∷ events) = step (without event.outage disk) machine event.line event.does × IsOutage event.outage event.does.unread × Follow step disk event.does.machine events
 
 -- the bytes of a reply: each line with a newline
 abbrev pub reply_text : List (List ℕ) → List ℕ
 reply_text reply = flat_map (λ line. line ++ 10 ∷ []) reply
+
+-- a reply goes out in one write, and a line without one makes none
+abbrev pub pieces_of : List (List ℕ) → ℕ
+pieces_of [] = 0
+pieces_of (line ∷ reply) = 1
 
 -- the machine after events
 abbrev pub machine_after : {M : Type 0} → M → List (Event M) → M
@@ -59,6 +60,11 @@ machine_after machine (event ∷ events) = machine_after event.does.machine even
 abbrev pub output : {M : Type 0} → List (Event M) → List ℕ
 output [] = []
 output (event ∷ events) = reply_text event.does.reply ++ output events
+
+-- how many writes that makes
+abbrev pub count_writes : {M : Type 0} → List (Event M) → ℕ
+count_writes [] = 0
+count_writes (event ∷ events) = pieces_of event.does.reply + count_writes events
 
 -- was some line refused?
 abbrev pub any_refused : {M : Type 0} → List (Event M) → Bool
@@ -77,20 +83,16 @@ pub record World (M : Type 0) : Type 0 where
   pub files : FilesTold
   pub sink : SinkTold
 
--- where the names of failed reads are told, these were added at their end
-abbrev pub AddsNames : List (List ℕ) → Option (List (List ℕ)) → Option (List (List ℕ)) → Type 0
-AddsNames added old new = new ≡ option_map (λ names. names ++ added) old
-
 -- From before to after, these events were executed, each to its end, and nothing else was written.
 pub record Goes {M : Type 0} (step : Step M) (disk : Disk) (before : World M) (events : List (Event M)) (after : World M) : Type 0 where
   pub follow : Follow step disk before.machine events
   pub machine : after.machine ≡ machine_after before.machine events
   pub refused : after.refused ≡ (before.refused || any_refused events)
   pub written : Appends before.sink.written after.sink.written (output events)
-  pub held : StaysHeld before.files after.files
-  -- each line that was refused for a file, and so each outage that shows, is one of the reads that failed
-  pub counted : RoseBy (length (unread events)) before.files.faults after.files.faults
-  pub named : AddsNames (unread events) before.files.failed after.files.failed
+  -- each reply in one write
+  pub writes : CountsOn (count_writes events) before.sink.calls after.sink.calls
+  -- each line that was refused for a file, and so each outage, is one of the reads that failed
+  pub asks : Asks (unread events) before.files after.files
   -- steady files have no outage
   pub sure : before.files.steady ≡ true → HaveNoOutage events
 
@@ -109,12 +111,11 @@ pub record Answers {M : Type 0} (step : Step M) (disk : Disk) (line : List ℕ) 
   pub machine : after ≡ does.machine
   pub replies : reply ≡ reply_text does.reply
   pub refuses : refused ≡ does.refused
-  pub held : StaysHeld files files'
-  pub counted : RoseBy (length does.unread) files.faults files'.faults
-  pub named : AddsNames does.unread files.failed files'.failed
+  pub lost : IsOutage outage does.unread
+  pub asks : Asks does.unread files files'
   pub sure : files.steady ≡ true → outage ≡ None
 
--- A line was executed, and of its reply a front was written; then the write failed.
+-- A line was executed, and of its reply a front was written: this write failed, and is the last one.
 pub record CutsReply {M : Type 0} (step : Step M) (disk : Disk) (line : List ℕ) (before after : World M) : Type 0 where
   pub machine : M
   pub reply : List ℕ
@@ -122,13 +123,16 @@ pub record CutsReply {M : Type 0} (step : Step M) (disk : Disk) (line : List ℕ
   pub answers : Answers step disk line before.machine before.files machine after.files reply refused
   pub taken : ℕ
   pub written : Appends before.sink.written after.sink.written (take taken reply)
+  pub writes : CountsOn 1 before.sink.calls after.sink.calls
 
--- Nothing was written; a read may have failed.
+-- Nothing was written, in one write at most; reads may have failed.
 pub record WritesNothing {M : Type 0} (before after : World M) : Type 0 where
   pub written : Keeps before.sink.written after.sink.written
-  pub counted : before.files.faults ≤ after.files.faults
+  pub tries : ℕ
+  pub once : tries ≤ 1
+  pub writes : CountsOn tries before.sink.calls after.sink.calls
   pub more : List (List ℕ)
-  pub named : AddsNames more before.files.failed after.files.failed
+  pub asks : Asks more before.files after.files
 
 -- why a run stops before its end
 pub data Cause : Type 0 where
@@ -150,3 +154,23 @@ pub record Stops {M : Type 0} (step : Step M) (disk : Disk) (cause : Cause) (lin
   pub executes : Executes step disk front before mid
   pub stops : StopsAt step disk cause rest mid after
   pub held : StaysHeld before.files after.files
+
+-- A run without outages over these lines.
+pub record Script {M : Type 0} (step : Step M) (disk : Disk) (machine : M) (lines : List (List ℕ)) : Type 0 where
+  pub events : List (Event M)
+  pub are : lines_in events ≡ lines
+  pub follow : Follow step disk machine events
+  pub whole : HaveNoOutage events
+
+-- a line does this
+pub record DoesSome {M : Type 0} (step : Step M) (disk : Disk) (machine : M) (line : List ℕ) : Type 0 where
+  pub does : Stepped M
+  pub steps : step disk machine line does
+
+-- over this disk a line does one thing alone
+abbrev pub DoesOneThing : {M : Type 0} → Step M → Disk → Type 0
+DoesOneThing {M = M} step disk = (machine : M) (line : List ℕ) (a b : Stepped M) → step disk machine line a → step disk machine line b → a ≡ b
+
+-- over this disk each line does something
+abbrev pub DoesSomething : {M : Type 0} → Step M → Disk → Type 0
+DoesSomething {M = M} step disk = (machine : M) (line : List ℕ) → DoesSome step disk machine line

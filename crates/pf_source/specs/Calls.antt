@@ -19,11 +19,11 @@ files_told files = record { held = Some (record { files = files.content; sure = 
 
 -- what an input in memory tells
 abbrev pub source_told : MemorySource → SourceTold
-source_told source = record { left = Some (drop source.at source.content); given = source.at; faults = source.faults }
+source_told source = record { left = Some (drop source.at source.content); given = source.at; faults = source.faults; last = source.last }
 
 -- what an output in memory tells
 abbrev pub sink_told : MemorySink → SinkTold
-sink_told sink = record { written = Some sink.written.items; faults = sink.faults }
+sink_told sink = record { written = Some sink.written.items; calls = sink.calls; faults = sink.faults }
 
 -- how many calls were made, and which calls are to fail
 pub record Calls (A : Type 0) : Type 0 where

@@ -1,6 +1,9 @@
+pub mod Asks
 pub mod Calls
 pub mod Causes
+pub mod Disk
 pub mod Files
 pub mod Memory
+pub mod Real
 pub mod Streams
 pub mod Told

@@ -1,9 +1,10 @@
 -- What one read of the input and one write of the output do.
-use Rattle.std.specs.Prelude.{ℕ, ◌≤◌, List, length, take, Option, Result, Ok, Err}
+use Rattle.std.specs.Prelude.{ℕ, ◌+◌, ◌-◌, ◌^◌, ◌≤◌, ◌==◌, min, List, length, take, Option, Result, Ok, Err, if◌then◌else◌}
 use Rattle.std.specs.Io.KnownBytes.{Appends, Keeps}
 use Rattle.pf_source.specs.declared.fault.Failed.{Failed}
 use Rattle.pf_source.specs.declared.fault.SinkFault.{SinkFault}
 use Rattle.pf_source.specs.declared.fault.SinkFault.TheVariants as faults
+use Rattle.pf_source.specs.declared.source.LastRead.{LastRead}
 
 -- how many bytes a read gave
 abbrev pub count_given : Result ℕ Failed → ℕ
@@ -14,6 +15,22 @@ count_given (Err e) = 0
 abbrev pub read_failures : Result ℕ Failed → ℕ
 read_failures (Ok n) = 0
 read_failures (Err e) = 1
+
+-- before any read
+abbrev pub no_read : LastRead
+no_read = record { size = 0; since = 0 }
+
+-- one read more behind the last piece, which gave no bytes; the count stops at 2 ^ 64 - 1
+abbrev pub gave_nothing : LastRead → LastRead
+gave_nothing last = record { size = last.size; since = min (last.since + 1) (2 ^ 64 - 1) }
+
+-- a read that gave a piece of this many bytes
+abbrev pub gave_piece : ℕ → LastRead
+gave_piece count = record { size = count; since = 0 }
+
+-- after a read that gave this many bytes
+abbrev pub after_read : LastRead → ℕ → LastRead
+after_read last count = if count == 0 then gave_nothing last else gave_piece count
 
 -- how many writes failed in a call
 abbrev pub write_failures : {T : Type 0} → Result T SinkFault → ℕ

@@ -2,6 +2,7 @@
 use Rattle.std.specs.Prelude.{◌≡◌, ℕ, Bool, true, false, List, [], ◌∷◌, Option, Some, None, nat_eq, if◌then◌else◌}
 use Rattle.std.specs.Cmp.Lexicographic.{pointwise}
 use Rattle.pf_source.specs.declared.files.HeldFile.{HeldFile}
+use Rattle.pf_source.specs.declared.source.LastRead.{LastRead}
 
 -- the files that an object holds; a sure object gives the empty file for each other name
 pub record Held : Type 0 where
@@ -38,13 +39,15 @@ pub record FilesTold : Type 0 where
   pub faults : ℕ
   pub failed : Option (List (List ℕ))
 
--- what a source tells: the bytes left, how many were given, and how many reads failed
+-- what a source tells: the bytes left, how many were given, how many reads failed, and what the last ones gave
 pub record SourceTold : Type 0 where
   pub left : Option (List ℕ)
   pub given : ℕ
   pub faults : ℕ
+  pub last : LastRead
 
--- what a sink tells: the bytes written, and how many writes failed
+-- what a sink tells: the bytes written, how many writes were made, and how many failed
 pub record SinkTold : Type 0 where
   pub written : Option (List ℕ)
+  pub calls : ℕ
   pub faults : ℕ

@@ -16,5 +16,5 @@ pub use files::{Files, HeldFile};
 pub use memory::{FailedWrite, MemoryFiles, MemorySink, MemorySource};
 pub use real::{RealFiles, RealSink, RealSource};
 pub use sink::Sink;
-pub use source::Source;
+pub use source::{LastRead, Source};
 pub use sure::{SureFiles, SureSink, SureSource};

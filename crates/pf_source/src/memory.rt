@@ -3,11 +3,12 @@ ghost use Rattle.std.specs.Prelude.{◌≡◌, ◌≤◌, [], ◌∷◌, ◌++�
 ghost use Rattle.std.specs.List.{list_any};
 ghost use Rattle.pf_source.specs.Told.{file_among, is_none_at_all};
 ghost use Rattle.pf_source.specs.Memory.{CopiesWithin, CountsFailure};
+ghost use Rattle.pf_source.specs.Streams.{no_read};
 
 use crate::fault::{Failed, FilesFault, SinkFault};
 use crate::files::{Files, HeldFile};
 use crate::sink::Sink;
-use crate::source::Source;
+use crate::source::{LastRead, Source};
 use pf_base::{List, Text};
 use std::alloc::{AllocError, Global};
 
@@ -93,22 +94,19 @@ impl MemoryFiles {
 
 impl Files for MemoryFiles {
     ghost use Rattle.std.specs.Prelude.{◌≡◌, ◌≤◌, length, IfOk, Some};
-    ghost use Rattle.pf_source.specs.Causes.{RoseBy};
+    ghost use Rattle.pf_source.specs.Asks.{Asks};
     ghost use Rattle.pf_source.specs.Told.{Told, file_of};
-    ghost use Rattle.pf_source.specs.Files.{AddsFailed, FailsOnlyAbsent, IfTooLarge, StaysHeld, failures};
+    ghost use Rattle.pf_source.specs.Files.{IfTooLarge, failed_names};
     ghost use Rattle.pf_source.specs.Calls.{FailsWhere, and_one, files_calls, files_told, is_read_to_fail};
 
     ghost tells = { files_told };
 
     /// Its call fails exactly where its number is one of those that are to fail, or where the name is absent.
     fn read(&mut self, alloc: Global, name: &Text, limit: u64) -> Result<Text, FilesFault>
-        ensures held { StaysHeld (files_told self.old) (files_told self.new) }
         ensures content { IfOk result (λ text. Told (files_told self.old).held (λ held. file_of held name.now ≡ Some text)) }
         ensures within { IfOk result (λ text. length text ≤ limit) }
         ensures too_large { IfTooLarge (files_told self.old) name.now limit result }
-        ensures faults { RoseBy (failures result) (files_told self.old).faults (files_told self.new).faults }
-        ensures failed { AddsFailed name.now result (files_told self.old).failed (files_told self.new).failed }
-        ensures steady { FailsOnlyAbsent (files_told self.old) name.now result }
+        ensures asks { Asks (failed_names name.now result) (files_told self.old) (files_told self.new) }
         ensures counted { files_calls self.new ≡ and_one (files_calls self.old) }
         ensures fails { FailsWhere (is_read_to_fail self.old name.now) result }
     {
@@ -134,6 +132,7 @@ pub struct MemorySource {
     fail: List<u64>,
     calls: u64,
     faults: u64,
+    last: LastRead,
     ghost inside: { at ≤ length content },
 }
 
@@ -142,7 +141,7 @@ impl MemorySource {
 
     /// An input with this content, of which the reads with these numbers, from 1, are to fail.
     pub fn new(content: Text, fail: Vec<u64>) -> MemorySource
-        ensures told { ⟦<MemorySource as Source>⟧.tells result ≡ record { left = Some content; given = 0; faults = 0 } }
+        ensures told { ⟦<MemorySource as Source>⟧.tells result ≡ record { left = Some content; given = 0; faults = 0; last = no_read } }
         ensures calls { source_calls result ≡ record { made = 0; fail = fail.items } }
     {
         MemorySource {
@@ -151,6 +150,7 @@ impl MemorySource {
             fail: List::of(fail),
             calls: 0,
             faults: 0,
+            last: LastRead::none(),
         }
     }
 }
@@ -159,7 +159,7 @@ impl Source for MemorySource {
     ghost use Rattle.std.specs.Prelude.{◌≡◌, ◌+◌, ◌<◌, ◌≤◌, length, take, IfOk, OnErr};
     ghost use Rattle.std.specs.Io.KnownBytes.{Consumes, IsAtEnd, Keeps};
     ghost use Rattle.pf_source.specs.Causes.{RoseBy};
-    ghost use Rattle.pf_source.specs.Streams.{count_given, read_failures};
+    ghost use Rattle.pf_source.specs.Streams.{after_read, count_given, read_failures};
     ghost use Rattle.pf_source.specs.Calls.{and_one, is_failed, is_next_to_fail, source_calls, source_told};
 
     ghost tells = { source_told };
@@ -170,6 +170,7 @@ impl Source for MemorySource {
         ensures bytes { IfOk result (λ n. Consumes (source_told self.old).left (source_told self.new).left (take n buf.new)) }
         ensures end { IfOk result (λ n. n ≡ 0 → 0 < length buf.old → IsAtEnd (source_told self.new).left) }
         ensures given { (source_told self.new).given ≡ (source_told self.old).given + count_given result }
+        ensures last { (source_told self.new).last ≡ after_read (source_told self.old).last (count_given result) }
         ensures err { OnErr result (Keeps (source_told self.old).left (source_told self.new).left) }
         ensures faults { RoseBy (read_failures result) (source_told self.old).faults (source_told self.new).faults }
         ensures counted { source_calls self.new ≡ and_one (source_calls self.old) }
@@ -178,10 +179,12 @@ impl Source for MemorySource {
         self.calls = self.calls.saturating_add(1);
         if is_failing(self.fail.items(), self.calls) {
             self.faults = self.faults.saturating_add(1);
+            self.last = self.last.after(0);
             return Err(Failed);
         }
         let count = copy_front(&self.content.items()[self.at..], buf);
         self.at += count;
+        self.last = self.last.after(count);
         Ok(count)
     }
 }
@@ -219,7 +222,7 @@ impl MemorySink {
 
     /// An empty output, of which these writes are to fail.
     pub fn new(alloc: Global, fail: Vec<FailedWrite>) -> MemorySink
-        ensures told { ⟦<MemorySink as Sink>⟧.tells result ≡ record { written = Some []; faults = 0 } }
+        ensures told { ⟦<MemorySink as Sink>⟧.tells result ≡ record { written = Some []; calls = 0; faults = 0 } }
         ensures calls { sink_calls result ≡ record { made = 0; fail = fail.items } }
     {
         MemorySink {
@@ -253,7 +256,7 @@ impl MemorySink {
 impl Sink for MemorySink {
     ghost use Rattle.std.specs.Prelude.{◌≡◌, OnOk};
     ghost use Rattle.std.specs.Io.KnownBytes.{Appends};
-    ghost use Rattle.pf_source.specs.Causes.{RoseBy};
+    ghost use Rattle.pf_source.specs.Causes.{CountsOn, RoseBy};
     ghost use Rattle.pf_source.specs.Streams.{IfCutShort, IfNotWritten, write_failures};
     ghost use Rattle.pf_source.specs.Calls.{WritesUnless, and_one, next_failing, sink_calls, sink_told};
 
@@ -265,6 +268,7 @@ impl Sink for MemorySink {
         ensures ok { OnOk result (Appends (sink_told self.old).written (sink_told self.new).written piece.now) }
         ensures failed { IfCutShort result (sink_told self.old).written (sink_told self.new).written piece.now }
         ensures no_memory { IfNotWritten result (sink_told self.old).written (sink_told self.new).written }
+        ensures calls { CountsOn 1 (sink_told self.old).calls (sink_told self.new).calls }
         ensures faults { RoseBy (write_failures result) (sink_told self.old).faults (sink_told self.new).faults }
         ensures counted { sink_calls self.new ≡ and_one (sink_calls self.old) }
         ensures fails { WritesUnless (next_failing (sink_calls self.old)) piece.now (sink_told self.old).written (sink_told self.new).written result }

@@ -1,11 +1,15 @@
-//! The real files, input and output. They tell no content, and count their faults.
-ghost use Rattle.std.specs.Prelude.{◌≡◌, ◌≤◌, ◌<◌, ◌+◌, ◌^◌, None, false, length, IfOk, SomeIff};
+//! The real files, input and output. They count their faults. Of content the output tells what its writer tells, which
+//! for the standard output is nothing; the others tell none.
+ghost use Rattle.std.specs.Prelude.{◌≡◌, ◌≤◌, ◌<◌, ◌+◌, ◌^◌, None, false, length, IfOk, IfErr, OnOk, SomeIff};
+ghost use Rattle.std.specs.Io.KnownBytes.{Consumes, IsAtEnd};
 ghost use Rattle.pf_source.specs.Causes.{Rose};
+ghost use Rattle.pf_source.specs.Real.{IfLarger, WritesWhole};
+ghost use Rattle.pf_source.specs.Streams.{no_read};
 
 use crate::fault::{Failed, FilesFault, SinkFault};
 use crate::files::Files;
 use crate::sink::Sink;
-use crate::source::Source;
+use crate::source::{LastRead, Source};
 use pf_base::{List, Text};
 use std::alloc::Global;
 use std::io::{Read, Write};
@@ -48,7 +52,10 @@ enum Unread {
 
 // The rest of an open file, at most `limit` bytes.
 fn read_rest<F: Read>(alloc: Global, file: &mut F, limit: u64) -> Result<Vec<u8>, Unread>
-    ensures { IfOk result (λ bytes. length bytes.items ≤ limit) }
+    ensures within { IfOk result (λ bytes. length bytes.items ≤ limit) }
+    ensures bytes { IfOk result (λ bytes. Consumes (F.remaining file.old) (F.remaining file.new) bytes.items) }
+    ensures end { OnOk result (IsAtEnd (F.remaining file.new)) }
+    ensures too_large { IfErr result (λ fault. IfLarger (F.remaining file.old) limit fault) }
 {
     let mut chunk = [0u8; CHUNK];
     let mut bytes = Vec::new(alloc);
@@ -108,17 +115,19 @@ pub struct RealSource<R> {
     input: R,
     given: u64,
     faults: u64,
+    last: LastRead,
 }
 
 impl<R: Read> RealSource<R> {
     /// No read was made.
     pub fn new(input: R) -> RealSource<R>
-        ensures { ⟦<RealSource<R> as Source>⟧.tells result ≡ record { left = None; given = 0; faults = 0 } }
+        ensures { ⟦<RealSource<R> as Source>⟧.tells result ≡ record { left = None; given = 0; faults = 0; last = no_read } }
     {
         RealSource {
             input,
             given: 0,
             faults: 0,
+            last: LastRead::none(),
         }
     }
 
@@ -131,7 +140,7 @@ impl<R: Read> RealSource<R> {
 }
 
 impl<R: Read> Source for RealSource<R> {
-    ghost tells = { λ source. record { left = None; given = source.given; faults = source.faults } };
+    ghost tells = { λ source. record { left = None; given = source.given; faults = source.faults; last = source.last } };
 
     /// A read that would give more than 2^64 - 1 bytes in all fails too.
     fn read(&mut self, buf: &mut [u8]) -> Result<usize, Failed> {
@@ -139,9 +148,11 @@ impl<R: Read> Source for RealSource<R> {
             && let Some(given) = self.given_with(count)
         {
             self.given = given;
+            self.last = self.last.after(count);
             return Ok(count);
         }
         self.faults = self.faults.saturating_add(1);
+        self.last = self.last.after(0);
         Err(Failed)
     }
 }
@@ -150,20 +161,27 @@ impl<R: Read> Source for RealSource<R> {
 #[derive(Drop)]
 pub struct RealSink<W> {
     output: W,
+    calls: u64,
     faults: u64,
 }
 
 impl<W: Write> RealSink<W> {
-    /// Nothing was written.
+    /// No write was made: what stands written is what the writer holds.
     pub fn new(output: W) -> RealSink<W>
-        ensures { ⟦<RealSink<W> as Sink>⟧.tells result ≡ record { written = None; faults = 0 } }
+        ensures { ⟦<RealSink<W> as Sink>⟧.tells result ≡ record { written = W.contents output; calls = 0; faults = 0 } }
     {
-        RealSink { output, faults: 0 }
+        RealSink {
+            output,
+            calls: 0,
+            faults: 0,
+        }
     }
 }
 
 // Writes the whole piece. A write that takes nothing of it, or fails, ends it.
-fn write_whole<W: Write>(output: &mut W, piece: &[u8]) -> Result<(), Failed> {
+fn write_whole<W: Write>(output: &mut W, piece: &[u8]) -> Result<(), Failed>
+    ensures { WritesWhole (W.contents output.old) (W.contents output.new) piece.now result }
+{
     let mut rest = piece;
     while !rest.is_empty() {
         match output.write(rest) {
@@ -175,9 +193,10 @@ fn write_whole<W: Write>(output: &mut W, piece: &[u8]) -> Result<(), Failed> {
 }
 
 impl<W: Write> Sink for RealSink<W> {
-    ghost tells = { λ sink. record { written = None; faults = sink.faults } };
+    ghost tells = { λ sink. record { written = W.contents sink.output; calls = sink.calls; faults = sink.faults } };
 
     fn write(&mut self, piece: &[u8]) -> Result<(), SinkFault> {
+        self.calls = self.calls.saturating_add(1);
         if write_whole(&mut self.output, piece).is_ok() {
             return Ok(());
         }

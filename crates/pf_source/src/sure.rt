@@ -1,11 +1,12 @@
 //! Objects in memory that never fail.
 ghost use Rattle.std.specs.Prelude.{◌≡◌, ◌≤◌, [], true, Some, drop, length};
+ghost use Rattle.pf_source.specs.Streams.{no_read};
 
 use crate::fault::{Failed, FilesFault, SinkFault};
 use crate::files::{Files, HeldFile};
 use crate::memory::{copy_front, copy_within, find_file};
 use crate::sink::Sink;
-use crate::source::Source;
+use crate::source::{LastRead, Source};
 use pf_base::{List, Text};
 use std::alloc::Global;
 
@@ -42,25 +43,31 @@ impl Files for SureFiles {
 pub struct SureSource {
     content: Text,
     at: usize,
+    last: LastRead,
     ghost inside: { at ≤ length content },
 }
 
 impl SureSource {
     /// An input with this content.
     pub fn new(content: Text) -> SureSource
-        ensures { ⟦<SureSource as Source>⟧.tells result ≡ record { left = Some content; given = 0; faults = 0 } }
+        ensures { ⟦<SureSource as Source>⟧.tells result ≡ record { left = Some content; given = 0; faults = 0; last = no_read } }
     {
-        SureSource { content, at: 0 }
+        SureSource {
+            content,
+            at: 0,
+            last: LastRead::none(),
+        }
     }
 }
 
 impl Source for SureSource {
-    ghost tells = { λ source. record { left = Some (drop source.at source.content); given = source.at; faults = 0 } };
+    ghost tells = { λ source. record { left = Some (drop source.at source.content); given = source.at; faults = 0; last = source.last } };
 
     /// It always answers.
     fn read(&mut self, buf: &mut [u8]) -> Result<usize, Failed> {
         let count = copy_front(&self.content.items()[self.at..], buf);
         self.at += count;
+        self.last = self.last.after(count);
         Ok(count)
     }
 }
@@ -69,15 +76,17 @@ impl Source for SureSource {
 #[derive(Debug, Drop)]
 pub struct SureSink {
     written: Vec<u8>,
+    calls: u64,
 }
 
 impl SureSink {
     /// An empty output.
     pub fn new(alloc: Global) -> SureSink
-        ensures { ⟦<SureSink as Sink>⟧.tells result ≡ record { written = Some []; faults = 0 } }
+        ensures { ⟦<SureSink as Sink>⟧.tells result ≡ record { written = Some []; calls = 0; faults = 0 } }
     {
         SureSink {
             written: Vec::new(alloc),
+            calls: 0,
         }
     }
 
@@ -90,9 +99,10 @@ impl SureSink {
 }
 
 impl Sink for SureSink {
-    ghost tells = { λ sink. record { written = Some sink.written.items; faults = 0 } };
+    ghost tells = { λ sink. record { written = Some sink.written.items; calls = sink.calls; faults = 0 } };
 
     fn write(&mut self, piece: &[u8]) -> Result<(), SinkFault> {
+        self.calls = self.calls.saturating_add(1);
         self.written.extend_from_slice(piece)?;
         Ok(())
     }

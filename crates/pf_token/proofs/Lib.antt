@@ -1,4 +1,5 @@
 pub mod CellLemmas
+pub mod Coming
 pub mod DollarLemmas
 pub mod FileLemmas
 pub mod MapLemmas

@@ -1,5 +1,6 @@
 pub mod Bytes
 pub mod Cells
+pub mod Coming
 pub mod Kinds
 pub mod Macros
 pub mod Pieces

@@ -16,7 +16,9 @@ pub mod uses;
 pub use cell::Cell;
 pub use lexemes::tokens_of;
 pub use macros::{Define, Macros};
-pub use pieces::{next_is_one, next_lexeme, next_stays_in};
+pub use pieces::{
+    a_text_has_tokens, descents_end, next_is_one, next_lexeme, next_stays_in, something_comes_next,
+};
 pub use reader::Reader;
 pub use token::{Cause, Fault, Lexeme, Token, TokenKind};
 

@@ -3,6 +3,7 @@ ghost use Rattle.std.specs.Prelude.{◌≡◌, ◌<◌, ℕ, List, Option, Some,
 ghost use Rattle.pf_token.specs.declared.cell.Cell.{Cell};
 ghost use Rattle.pf_token.specs.declared.token.Lexeme.{Lexeme};
 ghost use Rattle.pf_token.specs.Cells.{are_in, first_cell};
+ghost use Rattle.pf_token.specs.Coming.{Comes, Descends, HasTokens};
 ghost use Rattle.pf_token.specs.Macros.{value_of};
 ghost use Rattle.pf_token.specs.Pieces.{token, Next, NextIsOne, NoMore, StaysIn};
 ghost use Rattle.pf_token.specs.Reading.{step, weight};
@@ -103,4 +104,19 @@ pub fn next_is_one()
 pub fn next_stays_in()
     ensures { (values : List ℕ → Option (List ℕ)) (count : ℕ) (cells after : List Cell) (lexeme : Lexeme) →
         Next values cells lexeme after → are_in count cells ≡ true → StaysIn count lexeme after }
+{}
+
+/// Something comes next of any cells: a token, with less left behind it, or nothing any more.
+pub fn something_comes_next()
+    ensures { (values : List ℕ → Option (List ℕ)) (cells : List Cell) → Comes values cells }
+{}
+
+/// A text has tokens.
+pub fn a_text_has_tokens()
+    ensures { (values : List ℕ → Option (List ℕ)) (cells : List Cell) → HasTokens values cells }
+{}
+
+/// Each descent of pairs of numbers ends.
+pub fn descents_end()
+    ensures { (a b : ℕ) → Descends a b }
 {}
