@@ -1,1 +1,5 @@
 pub mod BracketLemmas
+pub mod CallPrints
+pub mod CallReads
+pub mod CallTargets
+pub mod JoinLemmas

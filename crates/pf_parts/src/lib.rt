@@ -9,6 +9,8 @@
 pub mod block;
 pub mod block_text;
 pub mod call;
+mod call_target;
+pub mod call_text;
 pub mod direction;
 mod equal;
 pub mod item;
@@ -22,6 +24,7 @@ pub mod text;
 pub use block::BlockKind;
 pub use block_text::put_block_kind;
 pub use call::{Base, Call};
+pub use call_text::put_call;
 pub use direction::Direction;
 pub use matching::{IfTest, TagTest};
 pub use param_text::{
