@@ -37,6 +37,6 @@ unfolding joined_path
 joined_within start names =
     let counted : length (start ++ names) ≡ length start + length names = length-append start names in
     ⊎_elim
-    (λ h. let deep : 8 < length start + length names = h in ap result_ok (cond-true _ _ _ (lt-ltb 8 (length start + length names) deep)) ∙ sym (cond-false _ _ _ (lt-leb 8 (length (start ++ names)) (omega arith))))
+    (λ h. let deep : 8 < length start + length names = h in ap result_ok (cond-true _ _ _ (lt-ltb 8 (length start + length names) deep)) ∙ sym (cond-false _ _ _ (lt-leb (length (start ++ names)) 8 (omega arith))))
     (λ h. let few : length start + length names ≤ 8 = h in ap result_ok (cond-false _ _ _ (le-ltb 8 (length start + length names) few)) ∙ sym (cond-true _ _ _ (le-leb (length (start ++ names)) 8 (omega arith))))
     (cases_lt 8 (length start + length names))

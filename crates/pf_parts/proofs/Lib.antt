@@ -1,4 +1,5 @@
 pub mod BracketLemmas
+pub mod CallBack
 pub mod CallPrints
 pub mod CallReads
 pub mod CallTargets

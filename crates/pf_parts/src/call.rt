@@ -1,7 +1,8 @@
 //! The calls of anchor rules (pf.conf(5), ANCHORS).
-ghost use Rattle.std.specs.Prelude.{◌≡◌};
+ghost use Rattle.std.specs.Prelude.{◌≡◌, Ok};
 ghost use Rattle.pf_parts.specs.CallTarget.{target_of};
-ghost use Rattle.pf_parts.specs.CallText.{read_call};
+ghost use Rattle.pf_parts.specs.CallText.{IsCall, call_text, read_call};
+ghost use Rattle.pf_parts.specs.declared.call.Call.{Call as AnyCall};
 
 use crate::{call_target, call_text};
 use pf_base::{Path, PathFault};
@@ -45,3 +46,9 @@ impl Call {
         call_target::target(self, at)
     }
 }
+
+/// A law: the text that is printed of a call is read as the call. The call goes up from one to eight rulesets, from the main
+/// ruleset or from its own, and names something; none of its names begins with `_`.
+pub fn printed_calls_read_back()
+    ensures { (call : AnyCall) → IsCall call → read_call (call_text call) ≡ Ok call }
+{}
