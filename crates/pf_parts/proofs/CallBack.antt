@@ -1,5 +1,5 @@
 -- A call's text is read back as the call.
-use Rattle.std.proofs.Common.{◌≡◌, ℕ, zero, suc, ◌+◌, ◌-◌, ◌*◌, ◌<◌, ◌≤◌, Bool, true, false, not, ◌&&◌, ◌||◌, cond, nat_lt, nat_le, Option, Some, None, Result, Ok, Err, List, [], ◌∷◌, ◌++◌, length, take, drop, codes, refl, sym, ap, ◌∙◌, subst, ⊎_elim, append_assoc, length-append, arith}
+use Rattle.std.proofs.Common.{◌≡◌, ℕ, zero, suc, ◌+◌, ◌-◌, ◌*◌, ◌<◌, ◌≤◌, Bool, true, false, not, ◌&&◌, ◌||◌, cond, nat_lt, nat_le, Option, Some, None, Ok, List, [], ◌∷◌, ◌++◌, length, take, drop, codes, refl, sym, ap, ◌∙◌, subst, ⊎_elim, append_assoc, length-append, arith}
 use Rattle.std.specs.List.{join_with_byte, list_all, onto_first, position, position_or_len, prefix_len, slice_split}
 use Rattle.std.specs.Option.{option_map, option_or}
 use Rattle.std.specs.Str.{bytes_eq}
@@ -9,14 +9,14 @@ use Rattle.std.proofs.lemmas.List.{append-nil, take-append-drop}
 use Rattle.std.proofs.lemmas.List.Folds.{list_all-append}
 use Rattle.std.proofs.lemmas.Slice.Eq.{bytes_eq-Decides}
 use Rattle.pf_base.specs.declared.path_fault.PathFault.{PathFault}
-use Rattle.pf_base.specs.declared.path_fault.PathFault.TheVariants.{BadByte, Empty, Reserved, TooDeep, TooLong}
+use Rattle.pf_base.specs.declared.path_fault.PathFault.TheVariants.{BadByte, Empty, Reserved, TooLong}
 use Rattle.pf_base.specs.Name.{is_plain_byte}
 use Rattle.pf_base.specs.Path.{bad_byte, is_dots, is_path_name, is_reserved, is_slash, is_written_name, name_fault, names_fault, path_of_names}
 use Rattle.pf_base.specs.Text.{is_nothing}
 use Rattle.pf_parts.specs.declared.call.Base.{Base}
 use Rattle.pf_parts.specs.declared.call.Base.TheVariants.{Below, Root, Up}
 use Rattle.pf_parts.specs.declared.call.Call.{Call}
-use Rattle.pf_parts.specs.CallText.{IsCall, base_pieces, base_up, call_from, call_of, call_text, climb, ends_below, is_base, is_main, is_own, last_pieces, path_at, read_call, read_front, read_pieces, read_root, ups}
+use Rattle.pf_parts.specs.CallText.{IsCall, base_pieces, base_up, call_from, call_of, call_text, climb, ends_below, is_base, is_own, last_pieces, path_at, read_call, read_front, read_pieces, read_root, ups}
 use Rattle.pf_parts.proofs.CallReads.{pieces_read}
 
 not_false : (b : Bool) → not b ≡ true → b ≡ false
@@ -146,7 +146,7 @@ some_cond : (b : Bool) (one other : List (List ℕ)) → 1 ≤ length one → 1 
 some_cond true one other h k = h
 some_cond false one other h k = k
 
-some_parts : (text : List ℕ) → 1 ≤ length (slice_split is_slash text)
+pub some_parts : (text : List ℕ) → 1 ≤ length (slice_split is_slash text)
 some_parts [] = omega arith
 some_parts (byte ∷ text) = some_cond (is_slash byte) ([] ∷ slice_split is_slash text) (onto_first byte (slice_split is_slash text)) (omega arith) (some_onto byte (slice_split is_slash text))
 
@@ -261,13 +261,17 @@ plain_call text pieces split other =
   where
     all : list_all is_other (slice_split is_slash text) ≡ true
     all = ap (list_all is_other) split ∙ other
+
     no : (b : Bool) → (b ≡ true → list_all is_other (slice_split is_slash text) ≡ false) → b ≡ false
     no true h = absurd (false≢true (sym (h refl) ∙ all))
     no false h = refl
+
     one : bytes_eq text (codes "*") ≡ false
     one = no (bytes_eq text (codes "*")) (λ h. ap (λ t. list_all is_other (slice_split is_slash t)) ((bytes_eq-Decides text (codes "*")).0 h))
+
     two : bytes_eq text (codes "/*") ≡ false
     two = no (bytes_eq text (codes "/*")) (λ h. ap (λ t. list_all is_other (slice_split is_slash t)) ((bytes_eq-Decides text (codes "/*")).0 h))
+
     three : ends_below text ≡ false
     three = no (ends_below text) (ends_other text)
 
@@ -283,25 +287,33 @@ below_call front some =
   where
     long : length (front ++ codes "/*") ≡ length front + 2
     long = length-append front (codes "/*")
+
     filled : 1 ≤ length front
     filled = some_length front some
+
     at : length (front ++ codes "/*") - 2 ≡ length front
     at = let a = long in omega arith
+
     no : (b : Bool) → (b ≡ true → ⊥) → b ≡ false
     no true h = absurd (h refl)
     no false h = refl
+
     one : bytes_eq (front ++ codes "/*") (codes "*") ≡ false
     one = no _ (λ h. let e = ap length ((bytes_eq-Decides (front ++ codes "/*") (codes "*")).0 h) in let a = long in let b = filled in omega arith)
+
     two : bytes_eq (front ++ codes "/*") (codes "/*") ≡ false
     two = no _ (λ h. let e = ap length ((bytes_eq-Decides (front ++ codes "/*") (codes "/*")).0 h) in let a = long in let b = filled in omega arith)
+
     end : drop (length (front ++ codes "/*") - 2) (front ++ codes "/*") ≡ codes "/*"
     end = ap (λ n. drop n (front ++ codes "/*")) at ∙ drop-append_seam front (codes "/*")
+
     three : ends_below (front ++ codes "/*") ≡ true
     three = ap (λ t. bytes_eq t (codes "/*")) end
+
     kept : take (length (front ++ codes "/*") - 2) (front ++ codes "/*") ≡ front
     kept = ap (λ n. take n (front ++ codes "/*")) at ∙ take-append_seam front (codes "/*")
 
-joined_more : (piece : List ℕ) (pieces : List (List ℕ)) (last : List ℕ) → join_with_byte 47 ((piece ∷ pieces) ++ last ∷ []) ≡ join_with_byte 47 (piece ∷ pieces) ++ 47 ∷ last
+pub joined_more : (piece : List ℕ) (pieces : List (List ℕ)) (last : List ℕ) → join_with_byte 47 ((piece ∷ pieces) ++ last ∷ []) ≡ join_with_byte 47 (piece ∷ pieces) ++ 47 ∷ last
 joined_more piece [] last = refl
 joined_more piece (next ∷ pieces) last =
     ap (λ rest. piece ++ 47 ∷ rest) (joined_more next pieces last)

@@ -1,11 +1,10 @@
 -- The path that a call leads to.
-use Rattle.std.proofs.Common.{◌≡◌, ℕ, ◌+◌, ◌<◌, ◌≤◌, Bool, true, false, cond, nat_le, nat_lt, Option, Some, None, Result, Ok, Err, List, [], ◌∷◌, ◌++◌, length, take, get_or, refl, sym, ap, ◌∙◌, ⊎_elim, length-append, arith}
+use Rattle.std.proofs.Common.{◌≡◌, ℕ, ◌+◌, ◌<◌, ◌≤◌, true, nat_lt, Some, List, [], ◌∷◌, ◌++◌, length, take, get_or, sym, ap, ◌∙◌, ⊎_elim, length-append, arith}
 use Rattle.std.specs.List.{list_all}
 use Rattle.std.specs.Result.{result_ok}
 use Rattle.std.proofs.lemmas.Bool.{and_from, and_parts, cases_Bool, cond-true, cond-false, false≢true, lt-ltb, le-leb, le-ltb, lt-leb, cases_lt}
 use Rattle.std.proofs.lemmas.List.{get_or-take, length-take, length-take-le, take_more}
 use Rattle.std.proofs.lemmas.List.Folds.{list_all_at}
-use Rattle.pf_base.specs.declared.path_fault.PathFault.TheVariants.{TooDeep}
 use Rattle.pf_base.specs.Path.{IsPath, child_path, is_path_name, is_written_name, joined_path}
 use Rattle.pf_parts.specs.CallTarget.{within}
 

@@ -1,5 +1,5 @@
 -- A buffer that is appended to again.
-use Rattle.std.proofs.Common.{◌≡◌, ℕ, List, ◌++◌, ap, ◌∙◌, append_assoc}
+use Rattle.std.proofs.Common.{ℕ, List, ◌++◌, ap, ◌∙◌, append_assoc}
 use Rattle.pf_parts.specs.Appending.{Extends}
 
 pub Extends-then : {old mid new : List ℕ} → Extends old mid → Extends mid new → Extends old new

@@ -1,7 +1,7 @@
 -- The text of an anchor rule's call (pf.conf(5), ANCHORS): pieces with `/` between them. A piece `..` at the front goes one
 -- ruleset up, nothing before a first `/` means the main ruleset, `*` at the end means each ruleset right below, and the
 -- other pieces are names.
-use Rattle.std.specs.Prelude.{◌≡◌, ℕ, zero, suc, ◌-◌, ◌*◌, ◌≤◌, Bool, true, false, not, ◌==◌, nat_le, nat_lt, ◌&&◌, List, [], ◌∷◌, ◌++◌, drop, length, take, Result, Ok, Err, if◌then◌else◌, codes}
+use Rattle.std.specs.Prelude.{◌≡◌, ℕ, zero, suc, ◌-◌, ◌*◌, ◌≤◌, ◌⊎◌, Bool, true, false, not, ◌==◌, nat_le, nat_lt, ◌&&◌, List, [], ◌∷◌, ◌++◌, drop, length, take, Result, Ok, Err, if◌then◌else◌, codes}
 use Rattle.std.specs.List.{join_with_byte, list_all, slice_split}
 use Rattle.std.specs.Str.{bytes_eq}
 use Rattle.pf_base.specs.Path.{is_slash, is_written_name, names_fault, path_of_names}
@@ -67,6 +67,11 @@ pub record IsCall (call : Call) : Type 0 where
   pub few : length call.path ≤ 8
   pub named : list_all (is_written_name false) call.path ≡ true
   pub said : is_own call.base call.path call.children ≡ false
+
+-- a text of this call: the printed one, and for the rulesets below the main one also its `/` with `/*` behind it
+pub record IsCallText (call : Call) (text : List ℕ) : Type 0 where
+  pub sayable : IsCall call
+  pub written : (text ≡ call_text call) ⊎ ((call ≡ call_of Root [] true) × (text ≡ codes "//*"))
 
 -- how many `..` stand in front
 abbrev pub ups : List (List ℕ) → ℕ

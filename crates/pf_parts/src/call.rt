@@ -1,7 +1,7 @@
 //! The calls of anchor rules (pf.conf(5), ANCHORS).
-ghost use Rattle.std.specs.Prelude.{◌≡◌, Ok};
+ghost use Rattle.std.specs.Prelude.{◌≡◌, ◌↔◌, Ok};
 ghost use Rattle.pf_parts.specs.CallTarget.{target_of};
-ghost use Rattle.pf_parts.specs.CallText.{IsCall, call_text, read_call};
+ghost use Rattle.pf_parts.specs.CallText.{IsCall, IsCallText, call_text, read_call};
 ghost use Rattle.pf_parts.specs.declared.call.Call.{Call as AnyCall};
 
 use crate::{call_target, call_text};
@@ -34,6 +34,7 @@ impl Call {
     /// than eight `..`, with their number. A place is counted from the text's begin.
     pub fn parse(text: &[u8]) -> Result<Call, PathFault>
         ensures read { result ≡ read_call text.now }
+        ensures grammar { (call : AnyCall) → (result ≡ Ok call) ↔ IsCallText call text.now }
     {
         call_text::read(text)
     }

@@ -34,7 +34,7 @@ fn calls_are_read_and_printed(rt: HostRuntime) -> Result<(), Fail> {
     Ok(())
 }
 
-const LONG: &str = "/aaaaaaaaaaaaaaaaaaaaaaaaaaaaaaaaaaaaaaaaaaaaaaaaaaaaaaaaaaaaaaaaaaa";
+const LONG: &str = "/aaaaaaaaaaaaaaaaaaaaaaaaaaaaaaaaaaaaaaaaaaaaaaaaaaaaaaaaaaaaaaaa";
 
 #[test]
 fn faults_of_calls_are_told(rt: HostRuntime) {
@@ -45,7 +45,7 @@ fn faults_of_calls_are_told(rt: HostRuntime) {
         ("a/..", PathFault::BadByte(2)),
         ("../../a*", PathFault::BadByte(7)),
         ("/_a/b!", PathFault::Reserved),
-        (LONG, PathFault::TooLong(66)),
+        (LONG, PathFault::TooLong(64)),
         ("a/a/a/a/a/a/a/a/a/*", PathFault::TooDeep(9)),
         ("../../../../../../../../..", PathFault::TooDeep(9)),
     ] {

@@ -3,18 +3,7 @@ ghost use Rattle.std.specs.Prelude.{◌≡◌};
 ghost use Rattle.pf_record.specs.Words as says;
 
 use pf_parts::Direction;
-
-// TCP's number.
-const TCP: u8 = 6;
-
-// UDP's number.
-const UDP: u8 = 17;
-
-// ICMP's number.
-const ICMP: u8 = 1;
-
-// ICMPv6's number.
-const ICMP6: u8 = 58;
+use pf_rule::{ICMP, ICMP6, TCP, UDP};
 
 pub(crate) fn direction_of(word: &[u8]) -> Option<Direction>
     ensures { result ≡ says.direction_of word.now }

@@ -1,4 +1,4 @@
-use Rattle.std.proofs.Common.{ap, Ok, sym}
+use Rattle.std.proofs.Common.{ap, Ok}
 use Rattle.pf_base.specs.Path.{path_of_names}
 use Rattle.pf_parts.proofs.call_text.names_after.Goals as goal
 

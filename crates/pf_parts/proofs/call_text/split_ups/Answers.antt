@@ -1,6 +1,6 @@
 use Rattle.std.proofs.Common.{arith, ap, sym, ◌∙◌}
 use Rattle.std.specs.Str.{bytes_eq}
-use Rattle.pf_parts.proofs.CallReads.{no_up_left, up_last, up_more}
+use Rattle.pf_parts.proofs.CallReads.{up_last, up_more}
 use Rattle.pf_parts.proofs.call_text.split_ups.Goals as goal
 
 pub loop-behind-preserved : goal.loop-behind-preserved
