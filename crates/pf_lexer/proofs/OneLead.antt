@@ -1,5 +1,6 @@
 -- What comes next of a unit is one thing, where each file that can't be read isn't there.
 use Rattle.std.proofs.Common.{◌≡◌, ℕ, List, [], ◌∷◌, Option, Some, None, Result, Ok, Err, length, refl, ap, sym, ◌∙◌, subst}
+use Rattle.pf_source.specs.Disk.{AreAbsent, Disk}
 use Rattle.pf_token.specs.declared.cell.Cell.{Cell}
 use Rattle.pf_token.specs.declared.token.Fault.{Fault as FaultOf}
 use Rattle.pf_token.specs.Cells.{cells_from}
@@ -10,12 +11,12 @@ use Rattle.pf_lexer.specs.declared.deed.Deed.TheVariants.{Nothing, Hands, Includ
 use Rattle.pf_lexer.specs.declared.deed.Statement.{Statement}
 use Rattle.pf_lexer.specs.declared.fault.LexFault.{LexFault}
 use Rattle.pf_lexer.specs.declared.fault.LexFault.TheVariants as faults
-use Rattle.pf_lexer.specs.Calls.{AreAbsent, unread_in}
+use Rattle.pf_lexer.specs.Calls.{unread_in}
 use Rattle.pf_lexer.specs.Deeds.{Does}
 use Rattle.pf_lexer.specs.ReadSoFar.{ReadSoFar}
 use Rattle.pf_lexer.specs.Reads.{absent, given, too_large, has_numbered, has_read, look_of, look_up}
 use Rattle.pf_lexer.specs.Stages.{Standing, Stage, going, failed}
-use Rattle.pf_lexer.specs.Units.{Answer, Answers, Disk, GoesTo, Leads, Opens, opened, large, unread, Passes, answered}
+use Rattle.pf_lexer.specs.Units.{Answer, Answers, GoesTo, Leads, Opens, opened, large, unread, Passes, answered}
 use Rattle.pf_lexer.proofs.OneDeed.{does_one, SameDeed}
 
 module _ (disk : Disk) where

@@ -2,6 +2,7 @@
 use Rattle.std.proofs.Common.{◌≡◌, ℕ, ◌<◌, ◌≤◌, true, false, List, [], ◌∷◌, Option, Some, None, Ok, Err, length, length-append, refl, ap, sym, ◌∙◌, subst, arith}
 use Rattle.std.specs.Prelude.{nat_lt}
 use Rattle.std.proofs.lemmas.Bool.{and_parts, and_from, ltb-true, lt-ltb}
+use Rattle.pf_source.specs.Disk.{Disk}
 use Rattle.pf_token.specs.declared.cell.Cell.{Cell}
 use Rattle.pf_token.specs.declared.token.Fault.{Fault as FaultOf}
 use Rattle.pf_token.specs.Cells.{are_in}
@@ -17,7 +18,7 @@ use Rattle.pf_lexer.specs.Going.{CutAt, before, behind, DeedStaysIn, IsCut, IsFo
 use Rattle.pf_lexer.specs.ReadSoFar.{ReadSoFar}
 use Rattle.pf_lexer.specs.Reads.{GoesOn}
 use Rattle.pf_lexer.specs.Stages.{Standing, Stage, going, failed}
-use Rattle.pf_lexer.specs.Units.{Answers, Disk, GoesTo, here, further, Opens, Passes, answered}
+use Rattle.pf_lexer.specs.Units.{Answers, GoesTo, here, further, Opens, Passes, answered}
 use Rattle.pf_lexer.proofs.StopLemmas.{by_memory, other_than_memory}
 
 -- memory ran out before the statement

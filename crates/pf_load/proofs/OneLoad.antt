@@ -1,11 +1,11 @@
 -- Over a disk a load comes to one thing, where each call of the lexer leads to one answer.
 use Rattle.std.proofs.Common.{◌≡◌, ℕ, List, Some, None, Result, Ok, Err, sym, ap, subst, ◌∙◌}
 use Rattle.std.specs.Option.{option_map}
-use Rattle.pf_runs.specs.Runs.{Disk}
+use Rattle.pf_source.specs.Disk.{AreAbsent, Disk}
 use Rattle.pf_token.specs.Macros.{values_of}
 use Rattle.pf_token.specs.declared.cell.Cell.{Cell}
 use Rattle.pf_token.specs.declared.macros.Define.{Define}
-use Rattle.pf_lexer.specs.Calls.{AreAbsent, unread_in}
+use Rattle.pf_lexer.specs.Calls.{unread_in}
 use Rattle.pf_lexer.specs.ReadSoFar.{ReadSoFar}
 use Rattle.pf_lexer.specs.Stages.{Stage}
 use Rattle.pf_lexer.specs.Units.{Answer, Leads, Opens, start_in}

@@ -10,7 +10,7 @@ use Rattle.pf_lexer.proofs.lexer.read_unit.Goals as goal
 
 pub returns-in_ok-found-in-Ok-clause-found : goal.returns-in_ok-found-in-Ok-clause-found
 returns-in_ok-found-in-Ok-clause-found g c = record {
-  at = λ held told. UnitOf.begun (c.in-Ok.ensures.ok.at held told) (c.in_ok-found-in-Ok.ensures.at held (c.in-Ok.ensures.held.held ∙ told));
+  at = λ held told. UnitOf.begun (c.in-Ok.ensures.ok.at held told) (c.in_ok-found-in-Ok.ensures.at held (c.in-Ok.ensures.asks.files.held.held ∙ told));
 }
 
 pub returns-in_ok-found-in-Ok-clause-only : goal.returns-in_ok-found-in-Ok-clause-only

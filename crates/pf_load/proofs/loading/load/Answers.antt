@@ -8,7 +8,7 @@ returns-in-Ok-clause-means g c =
     let macros = c.in_ok-macros.ensures in
     let fresh = c.new-reads.ensures in
     let first = rw (macros, fresh) at c.in-Ok.ensures.ok in
-    record { at = λ held is. begins (file_of held) c.args.defines.now c.args.file.now c.opening_without.ensures c.in-Ok.lexer.stage c.begin.new.reads c.read_rules.result (first.at held is) (c.read_rules.ensures.means.at held (c.in-Ok.ensures.held.held ∙ is)) }
+    record { at = λ held is. begins (file_of held) c.args.defines.now c.args.file.now c.opening_without.ensures c.in-Ok.lexer.stage c.begin.new.reads c.read_rules.result (first.at held is) (c.read_rules.ensures.means.at held (c.in-Ok.ensures.asks.files.held.held ∙ is)) }
 
 pub returns-clause-means : goal.returns-clause-means
 returns-clause-means g c =
