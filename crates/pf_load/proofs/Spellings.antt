@@ -6,8 +6,8 @@ use Rattle.std.specs.Str.{bytes_eq}
 use Rattle.std.proofs.lemmas.Slice.Eq.{bytes_eq-Decides}
 use Rattle.pf_load.specs.Grammar.{Spells, action_word, direction_words, quick_words, proto_words}
 use Rattle.pf_load.specs.Line.{Words, number_named, direction_at, quick_at, proto_at_end, rule_with, rule_behind, rule_of}
-use Rattle.pf_rule.specs.declared.packet.Direction.{Direction}
-use Rattle.pf_rule.specs.declared.packet.Direction.TheVariants.{In, Out}
+use Rattle.pf_parts.specs.declared.direction.Direction.{Direction}
+use Rattle.pf_parts.specs.declared.direction.Direction.TheVariants.{In, Out}
 use Rattle.pf_rule.specs.declared.rule.Rule.{Rule}
 
 -- From the parts to the words.

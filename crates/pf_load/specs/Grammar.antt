@@ -2,8 +2,8 @@
 use Rattle.std.specs.Prelude.{◌≡◌, ℕ, Bool, true, false, List, [], ◌∷◌, ◌++◌, Option, Some, None, codes}
 use Rattle.std.specs.Option.{option_and_then, IfSome, IsSome}
 use Rattle.pf_load.specs.Line.{Words, number_named, rule_with}
-use Rattle.pf_rule.specs.declared.packet.Direction.{Direction}
-use Rattle.pf_rule.specs.declared.packet.Direction.TheVariants.{In, Out}
+use Rattle.pf_parts.specs.declared.direction.Direction.{Direction}
+use Rattle.pf_parts.specs.declared.direction.Direction.TheVariants.{In, Out}
 use Rattle.pf_rule.specs.declared.rule.Rule.{Rule}
 
 -- the parts of a rule line: whether it blocks, and the number after `proto` as its digits are written

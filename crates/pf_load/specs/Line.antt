@@ -8,19 +8,20 @@ use Rattle.pf_base.specs.Decimal.{decimal_of}
 use Rattle.pf_lexer.specs.declared.deed.Statement.{Statement}
 use Rattle.pf_load.specs.declared.line.Said.{Said}
 use Rattle.pf_load.specs.declared.line.Said.TheVariants as says
-use Rattle.pf_rule.specs.Opening.{no_options, no_params}
+use Rattle.pf_rule.specs.Opening.{no_params}
+use Rattle.pf_parts.specs.Defaults.{no_options}
 use Rattle.pf_rule.specs.declared.criteria.AddrTest.TheVariants as addresses
-use Rattle.pf_rule.specs.declared.criteria.IfTest.TheVariants as interfaces
-use Rattle.pf_rule.specs.declared.criteria.TagTest.TheVariants as tags
+use Rattle.pf_parts.specs.declared.matching.IfTest.TheVariants as interfaces
+use Rattle.pf_parts.specs.declared.matching.TagTest.TheVariants as tags
 use Rattle.pf_rule.specs.declared.effect.Action.{Action}
 use Rattle.pf_rule.specs.declared.effect.Action.TheVariants.{Pass, Block}
-use Rattle.pf_rule.specs.declared.effect.BlockKind.TheVariants.{Drop}
+use Rattle.pf_parts.specs.declared.block.BlockKind.TheVariants.{Drop}
 use Rattle.pf_rule.specs.declared.effect.Effect.{Effect}
-use Rattle.pf_rule.specs.declared.packet.Direction.{Direction}
-use Rattle.pf_rule.specs.declared.packet.Direction.TheVariants.{In, Out}
+use Rattle.pf_parts.specs.declared.direction.Direction.{Direction}
+use Rattle.pf_parts.specs.declared.direction.Direction.TheVariants.{In, Out}
 use Rattle.pf_rule.specs.declared.rule.Rule.{Rule}
-use Rattle.pf_rule.specs.declared.state.StateKind.{StateKind}
-use Rattle.pf_rule.specs.declared.state.StateKind.TheVariants as state
+use Rattle.pf_parts.specs.declared.state.StateKind.{StateKind}
+use Rattle.pf_parts.specs.declared.state.StateKind.TheVariants as state
 use Rattle.pf_token.specs.Kinds.{is_word_kind}
 use Rattle.pf_token.specs.declared.token.Token.{Token}
 

@@ -3,9 +3,8 @@ use Rattle.std.proofs.Common.{◌≡◌, ℕ, List, [], ◌∷◌, ◌++◌, Opt
 use Rattle.std.specs.List.{filter_map, flat_map}
 use Rattle.std.proofs.Math.Seq.{take-append_seam}
 use Rattle.std.proofs.lemmas.List.{append-nil}
-use Rattle.pf_record.specs.Appending.{Extends}
-use Rattle.pf_record.specs.Items.{spaced}
-use Rattle.pf_record.specs.Parts.{joined}
+use Rattle.pf_parts.specs.Appending.{Extends}
+use Rattle.pf_parts.specs.Parts.{joined, spaced}
 
 spaced_parts : (parts : List (Option (List ℕ))) → flat_map (λ part. codes " " ++ part) (filter_map (λ part. part) parts) ≡ flat_map spaced parts
 spaced_parts [] = refl

@@ -1,4 +1,3 @@
-pub mod BracketLemmas
 pub mod FaultLemmas
 pub mod GivenLemmas
 pub mod JoinLemmas

@@ -1,22 +1,14 @@
 -- The text of an answer.
-use Rattle.std.specs.Prelude.{ℕ, Bool, true, false, ◌==◌, List, [], ◌∷◌, ◌++◌, Option, Some, if◌then◌else◌, codes, decimal}
+use Rattle.std.specs.Prelude.{ℕ, List, [], ◌∷◌, ◌++◌, Option, Some, if◌then◌else◌, codes, decimal}
 use Rattle.std.specs.Option.{option_map}
 use Rattle.pf_rule.specs.declared.effect.Action.{Action}
 use Rattle.pf_rule.specs.declared.effect.Action.TheVariants.{Pass, Block, Match, Anchor}
-use Rattle.pf_rule.specs.declared.effect.BlockKind.{BlockKind}
-use Rattle.pf_rule.specs.declared.effect.BlockKind.TheVariants.{Drop, Return, Rst, Icmp}
+use Rattle.pf_parts.specs.BlockText.{block_text}
 use Rattle.pf_rule.specs.declared.walk.Answer.{Answer}
 use Rattle.pf_rule.specs.declared.walk.Decision.{Decision}
-use Rattle.pf_record.specs.ParamText.{log_text, tag_text, queue_text, prio_text, scrub_text, label_text}
-use Rattle.pf_record.specs.Parts.{joined, word_if, with_number}
-use Rattle.pf_record.specs.StateText.{state_text}
-
--- what the sender of a blocked packet is told (pf.conf(5), "block"); a ttl of 0 isn't printed
-unfoldable pub block_text : BlockKind → List ℕ
-block_text Drop = codes "drop"
-block_text Return = codes "return"
-block_text (Rst ttl) = if ttl == 0 then codes "return-rst" else codes "return-rst (ttl " ++ decimal ttl ++ codes ")"
-block_text (Icmp code code6) = codes "return-icmp (" ++ decimal code ++ codes ", " ++ decimal code6 ++ codes ")"
+use Rattle.pf_parts.specs.ParamText.{log_text, tag_text, queue_text, prio_text, scrub_text, label_text}
+use Rattle.pf_parts.specs.Parts.{joined, word_if, with_number}
+use Rattle.pf_parts.specs.StateText.{state_text}
 
 -- What stands in an answer, with the tag that the packet has at the end. A blocked packet has neither a state nor
 -- parameters other than `log`.

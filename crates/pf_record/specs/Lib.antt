@@ -1,12 +1,6 @@
 pub mod AnswerText
-pub mod Appending
 pub mod FieldName
-pub mod Items
 pub mod Keys
-pub mod NameText
-pub mod ParamText
-pub mod Parts
 pub mod Reading
 pub mod Record
-pub mod StateText
 pub mod Words

@@ -9,7 +9,7 @@ use Rattle.pf_base.specs.Text.{fields_of}
 use Rattle.pf_addr.specs.Addr.{SameFamily, same_family}
 use Rattle.pf_addr.specs.Grammar.{IsAddrText}
 use Rattle.pf_addr.specs.declared.addr.Addr.{Addr}
-use Rattle.pf_rule.specs.declared.packet.Direction.{Direction}
+use Rattle.pf_parts.specs.declared.direction.Direction.{Direction}
 use Rattle.pf_rule.specs.declared.packet.Packet.{Packet}
 use Rattle.pf_record.specs.declared.field.Field.{Field}
 use Rattle.pf_record.specs.declared.field.Field.TheVariants as field

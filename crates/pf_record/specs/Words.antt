@@ -6,8 +6,8 @@ use Rattle.std.specs.Str.{bytes_eq}
 use Rattle.pf_base.specs.Decimal.{decimal_of}
 use Rattle.pf_base.specs.Text.{is_nothing}
 use Rattle.pf_ops.specs.Words.{number_of, protocols, tcp_flags}
-use Rattle.pf_rule.specs.declared.packet.Direction.{Direction}
-use Rattle.pf_rule.specs.declared.packet.Direction.TheVariants.{In, Out}
+use Rattle.pf_parts.specs.declared.direction.Direction.{Direction}
+use Rattle.pf_parts.specs.declared.direction.Direction.TheVariants.{In, Out}
 
 -- `in` or `out`
 abbrev pub direction_of : List ℕ → Option Direction

@@ -1,63 +1,20 @@
 //! The text of an answer.
 ghost use Rattle.std.specs.Prelude.{◌≡◌, ◌++◌, IsTrue, OnErr, OnOk, codes};
 ghost use Rattle.std.specs.Option.{option_map};
-ghost use Rattle.pf_record.specs.Appending.{Extends};
-ghost use Rattle.pf_record.specs.AnswerText.{answer_parts, answer_text, block_text};
-ghost use Rattle.pf_record.specs.Items.{spaced};
-ghost use Rattle.pf_record.specs.ParamText.{log_text, prio_text, queue_text, scrub_text, tag_text};
-ghost use Rattle.pf_record.specs.Parts.{joined, with_number, word_if};
-ghost use Rattle.pf_record.specs.StateText.{state_text};
+ghost use Rattle.pf_parts.specs.Appending.{Extends};
+ghost use Rattle.pf_record.specs.AnswerText.{answer_parts, answer_text};
+ghost use Rattle.pf_parts.specs.BlockText.{block_text};
+ghost use Rattle.pf_parts.specs.ParamText.{log_text, prio_text, queue_text, scrub_text, tag_text};
+ghost use Rattle.pf_parts.specs.Parts.{joined, spaced, with_number, word_if};
+ghost use Rattle.pf_parts.specs.StateText.{state_text};
 ghost use Rattle.pf_rule.specs.Effect.{is_deciding};
 
-use crate::params::{
-    put_allow_opts, put_label, put_log, put_prio, put_queue, put_scrub, put_tag, put_tos,
-};
-use crate::state::put_state;
-use crate::text::{put, put_numbered};
 use pf_base::{Name, NoMemory};
-use pf_rule::{Action, Answer, BlockKind, Decision, Log, Params};
-
-// `return-rst`, with a ttl that isn't 0.
-#[tactic(auto, unfolding(crate::specs::AnswerText::block_text))]
-fn put_reset(out: &mut Vec<u8>, ttl: u8) -> Result<(), NoMemory>
-    ensures ok { OnOk result (out.new.items ≡ out.old.items ++ block_text (BlockKind.Rst ttl)) }
-    ensures kept { Extends out.old.items out.new.items }
-{
-    if ttl == 0 {
-        put(out, b"return-rst")?;
-    } else {
-        put_numbered(out, b"return-rst (ttl ", u32::from(ttl))?;
-        put(out, b")")?;
-    }
-    Ok(())
-}
-
-// `return-icmp` with both codes.
-fn put_icmp(out: &mut Vec<u8>, code: u8, code6: u8) -> Result<(), NoMemory>
-    ensures ok { OnOk result (out.new.items ≡ out.old.items ++ block_text (BlockKind.Icmp code code6)) }
-    ensures kept { Extends out.old.items out.new.items }
-{
-    put_numbered(out, b"return-icmp (", u32::from(code))?;
-    put_numbered(out, b", ", u32::from(code6))?;
-    put(out, b")")?;
-    Ok(())
-}
-
-/// Appends what the sender of a blocked packet is told: `drop`, `return`, `return-rst` with the ttl where
-/// it isn't 0, or `return-icmp` with both codes. Without memory a front of this may be appended.
-#[tactic(auto, unfolding(crate::specs::AnswerText::block_text))]
-fn put_block_kind(out: &mut Vec<u8>, kind: BlockKind) -> Result<(), NoMemory>
-    ensures ok { OnOk result (out.new.items ≡ out.old.items ++ block_text kind) }
-    ensures kept { Extends out.old.items out.new.items }
-{
-    match kind {
-        BlockKind::Drop => put(out, b"drop")?,
-        BlockKind::Return => put(out, b"return")?,
-        BlockKind::Rst { ttl } => put_reset(out, ttl)?,
-        BlockKind::Icmp { code, code6 } => put_icmp(out, code, code6)?,
-    }
-    Ok(())
-}
+use pf_parts::{
+    BlockKind, Log, put, put_allow_opts, put_block_kind, put_label, put_log, put_prio, put_queue,
+    put_scrub, put_state, put_tag, put_tos,
+};
+use pf_rule::{Action, Answer, Decision, Params};
 
 fn put_passed(out: &mut Vec<u8>, decision: &Decision) -> Result<(), NoMemory>
     ensures ok { OnOk result (out.new.items ≡ out.old.items ++ (codes "pass " ++ state_text decision.now.state decision.now.options)) }

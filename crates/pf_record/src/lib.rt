@@ -1,17 +1,13 @@
 //! The record of a packet, read from its text, and the answer to a packet, printed as text.
-//! It stands on pf_base, pf_addr, pf_ops and pf_rule, and on itoa for decimal numbers. The layers above read
-//! records and append answers.
+//! It stands on pf_base, pf_addr, pf_ops, pf_parts, which prints the parts of an answer, and pf_rule. The layers above
+//! read records and append answers.
 #![tactic(auto)]
 
 mod answer;
 mod field;
 mod head;
-mod item;
-mod params;
 mod record;
 mod said;
-mod state;
-mod text;
 mod values;
 mod words;
 

@@ -5,19 +5,17 @@ use Rattle.pf_rule.specs.Around.{Around}
 use Rattle.pf_rule.specs.Deciding.{Decides, NoneDecides}
 use Rattle.pf_rule.specs.Effect.{decision_of, effect_on, is_deciding}
 use Rattle.pf_rule.specs.Hit.{hits_at}
-use Rattle.pf_rule.specs.Walk.{walked, walked_one}
+use Rattle.pf_rule.specs.Walk.{own_effect, walked, walked_one, walking_by}
 use Rattle.pf_rule.specs.declared.rule.Rule.{Rule}
 use Rattle.pf_rule.specs.declared.walk.Walk.{Walk}
+use Rattle.pf_rule.proofs.AnyWalks as any
 use Rattle.pf_rule.proofs.Effects.{decides_last, quick_stops, rests_last}
 use Rattle.pf_rule.proofs.Walks.{walked_on, walked_stopped}
 
 -- a walk through two lists is a walk through the second after one through the first
 pub walked_append : (around : Around) (front back : List Rule) (walk : Walk)
     → walked around (front ++ back) walk ≡ walked around back (walked around front walk)
-walked_append around [] back walk = refl
-walked_append around (rule ∷ front) back walk =
-    elim walk.stop as (λ b. walk.stop ≡ b → cond b walk (walked around (front ++ back) (walked_one around rule walk)) ≡ walked around back (cond b walk (walked around front (walked_one around rule walk))))
-    [ true ↦ (λ stopped. sym (walked_stopped around back walk stopped)) | false ↦ (λ going. walked_append around front back (walked_one around rule walk)) ] refl
+walked_append around front back walk = any.joined (walking_by own_effect around) front back walk
 
 -- a rule that hits has its effect
 takes : (around : Around) (rule : Rule) (walk : Walk) → hits_at around rule walk ≡ true → walked_one around rule walk ≡ effect_on rule.effect walk

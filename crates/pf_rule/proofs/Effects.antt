@@ -1,16 +1,11 @@
 -- Effects of rules on walks.
-use Rattle.std.proofs.Common.{◌≡◌, Bool, true, false, ◌||◌, Option, Some, None, refl}
-use Rattle.std.specs.Option.{option_or}
+use Rattle.std.proofs.Common.{◌≡◌, Bool, true, false, ◌||◌, refl}
 use Rattle.pf_rule.specs.Effect.{acted_on, effect_on, is_anchor, is_deciding, decision_of}
 use Rattle.pf_rule.specs.declared.effect.Action.{Action}
 use Rattle.pf_rule.specs.declared.effect.Action.TheVariants.{Pass, Block, Match, Anchor}
 use Rattle.pf_rule.specs.declared.effect.Effect.{Effect}
 use Rattle.pf_rule.specs.declared.walk.Walk.{Walk}
-
--- what replaces twice replaces once
-or_twice : {T : Type 0} → (new old : Option T) → option_or new (option_or new old) ≡ option_or new old
-or_twice None old = refl
-or_twice (Some x) old = refl
+use Rattle.pf_rule.proofs.Translations.{or_twice, target_over_twice, translated_twice}
 
 -- what is set twice is set once
 set_twice : (old new : Bool) → ((old || new) || new) ≡ (old || new)
@@ -21,7 +16,7 @@ set_twice false false = refl
 acted_twice : (action : Action) (effect : Effect) (walk : Walk) → acted_on action effect (acted_on action effect walk) ≡ acted_on action effect walk
 acted_twice Pass effect walk = simp (or_twice, set_twice)
 acted_twice (Block kind) effect walk = simp (or_twice, set_twice)
-acted_twice Match effect walk = simp (or_twice, set_twice)
+acted_twice Match effect walk = simp (or_twice, set_twice, target_over_twice, translated_twice)
 acted_twice (Anchor call) effect walk = refl
 
 -- an effect twice is the effect once

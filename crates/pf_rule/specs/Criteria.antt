@@ -17,12 +17,12 @@ use Rattle.pf_rule.specs.declared.criteria.AddrSet.TheVariants.{Prefix, Range, T
 use Rattle.pf_rule.specs.declared.criteria.AddrTest.{AddrTest}
 use Rattle.pf_rule.specs.declared.criteria.AddrTest.TheVariants as address
 use Rattle.pf_rule.specs.declared.criteria.Criteria.{Criteria}
-use Rattle.pf_rule.specs.declared.criteria.IfTest.{IfTest}
-use Rattle.pf_rule.specs.declared.criteria.IfTest.TheVariants as interface
-use Rattle.pf_rule.specs.declared.criteria.TagTest.{TagTest}
-use Rattle.pf_rule.specs.declared.criteria.TagTest.TheVariants as tag
-use Rattle.pf_rule.specs.declared.packet.Direction.{Direction}
-use Rattle.pf_rule.specs.declared.packet.Direction.TheVariants.{In, Out}
+use Rattle.pf_parts.specs.declared.matching.IfTest.{IfTest}
+use Rattle.pf_parts.specs.declared.matching.IfTest.TheVariants as interface
+use Rattle.pf_parts.specs.declared.matching.TagTest.{TagTest}
+use Rattle.pf_parts.specs.declared.matching.TagTest.TheVariants as tag
+use Rattle.pf_parts.specs.declared.direction.Direction.{Direction}
+use Rattle.pf_parts.specs.declared.direction.Direction.TheVariants.{In, Out}
 use Rattle.pf_rule.specs.declared.packet.Packet.{Packet}
 
 -- a criterion that isn't given holds for every packet

@@ -1,8 +1,9 @@
--- What a rule that hits does to a walk (pf.conf(5), "pass", "block", "match", "quick" and "tag").
+-- What a rule that hits does to a walk (pf.conf(5), "pass", "block", "match", "quick", "tag" and TRANSLATION).
 -- It is a value of the rule's effect alone.
 use Rattle.std.specs.Prelude.{Bool, true, false, ◌||◌}
 use Rattle.std.specs.Option.{option_or}
 use Rattle.pf_rule.specs.Laying.{laid_over}
+use Rattle.pf_rule.specs.Translation.{translated}
 use Rattle.pf_rule.specs.declared.effect.Action.{Action}
 use Rattle.pf_rule.specs.declared.effect.Action.TheVariants.{Pass, Block, Match, Anchor}
 use Rattle.pf_rule.specs.declared.effect.Effect.{Effect}
@@ -37,9 +38,12 @@ decision_of effect = record {
 abbrev pub tagged_on : Effect → Walk → Walk
 tagged_on effect walk = record walk { tag = option_or effect.tag walk.tag; stop = walk.stop || effect.quick }
 
--- a match rule lays its parameters over the walk's
+-- a match rule lays its parameters over the walk's, and translates the packet
 abbrev pub matched_on : Effect → Walk → Walk
-matched_on effect walk = record (tagged_on effect walk) { params = laid_over effect.params walk.params }
+matched_on effect walk = record (tagged_on effect walk) {
+  params = laid_over effect.params walk.params;
+  packet = translated effect.params.nat effect.params.rdr walk.packet;
+}
 
 -- a pass or block rule decides, until a later one does
 abbrev pub decided_on : Effect → Walk → Walk

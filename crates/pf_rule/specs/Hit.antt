@@ -1,5 +1,5 @@
 -- When a rule hits, and what its test finds where it doesn't.
-use Rattle.std.specs.Prelude.{ℕ, List, [], ◌∷◌, Bool, not, ◌&&◌, Option, Some, None, if◌then◌else◌}
+use Rattle.std.specs.Prelude.{◌≡◌, ◌↔◌, ℕ, ◌<◌, List, [], ◌∷◌, Bool, false, IsTrue, not, ◌&&◌, Option, Some, None, if◌then◌else◌}
 use Rattle.std.specs.List.{list_all, position_from}
 use Rattle.pf_rule.specs.Around.{Around}
 use Rattle.pf_rule.specs.Criteria.{interface_holds, direction_holds, family_holds, proto_holds, source_holds, source_port_holds, target_holds, target_port_holds, user_holds, group_holds, flags_hold, icmp_holds, tos_holds, prio_holds, tagged_holds}
@@ -64,3 +64,12 @@ missed_at None = Other
 -- what the test of a rule finds: a hit, or else the first skip field that fails, or else that another test fails
 abbrev pub tested_at : Around → Rule → Walk → Tested
 tested_at around rule walk = if hits_at around rule walk then Hit else missed_at (fails_at around rule walk)
+
+-- what is found says of a rule at a walk: whether it hits, and where it doesn't, the first of the eight skip fields that
+-- fails, or that these hold and another criterion fails
+pub record Finds (around : Around) (rule : Rule) (walk : Walk) (found : Tested) : Type 0 where
+  pub hit : (found ≡ Hit) ↔ IsTrue (hits_at around rule walk)
+  pub field : (n : ℕ) → (found ≡ Field n) ↔ (fails_at around rule walk ≡ Some n)
+  pub few : (n : ℕ) → found ≡ Field n → n < 8
+  pub other : (found ≡ Other) ↔ ((fails_at around rule walk ≡ None) × (hits_at around rule walk ≡ false))
+  pub value : found ≡ tested_at around rule walk

@@ -3,8 +3,11 @@ pub mod Around
 pub mod Criteria
 pub mod Deciding
 pub mod Effect
+pub mod Fields
 pub mod Hit
 pub mod Laying
 pub mod Opening
 pub mod Probe
+pub mod Translation
 pub mod Walk
+pub mod Walking

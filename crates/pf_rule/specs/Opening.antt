@@ -1,10 +1,10 @@
 -- A walk before its first rule.
 use Rattle.std.specs.Prelude.{false, None}
+use Rattle.pf_parts.specs.Defaults.{no_log, no_options, no_scrub}
 use Rattle.pf_rule.specs.declared.effect.Action.TheVariants.{Pass}
 use Rattle.pf_rule.specs.declared.packet.Packet.{Packet}
 use Rattle.pf_rule.specs.declared.params.Params.{Params}
-use Rattle.pf_rule.specs.declared.state.StateKind.TheVariants as state
-use Rattle.pf_rule.specs.declared.state.StateOptions.{StateOptions}
+use Rattle.pf_parts.specs.declared.state.StateKind.TheVariants as state
 use Rattle.pf_rule.specs.declared.walk.Decision.{Decision}
 use Rattle.pf_rule.specs.declared.walk.Walk.{Walk}
 
@@ -14,26 +14,11 @@ no_params = record {
   queue = None;
   prio = None;
   tos = None;
-  scrub = record { no_df = false; random_id = false; reassemble_tcp = false; min_ttl = None; max_mss = None };
-  log = record { on = false; all = false; matches = false; user = false; to = None };
+  scrub = no_scrub;
+  log = no_log;
   allow_opts = false;
-}
-
--- no option is given
-abbrev pub no_options : StateOptions
-no_options = record {
-  max = None;
-  source_track = None;
-  max_src_nodes = None;
-  max_src_states = None;
-  max_src_conn = None;
-  max_src_conn_rate = None;
-  overload = None;
-  sloppy = false;
-  no_sync = false;
-  pflow = false;
-  if_bound = false;
-  floating = false;
+  nat = None;
+  rdr = None;
 }
 
 -- without a pass or block rule that hits, a packet passes and makes no state (pf.conf(5), "pass")

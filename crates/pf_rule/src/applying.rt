@@ -6,11 +6,12 @@ ghost use Rattle.pf_rule.specs.Effect.{decision_of, effect_on, is_anchor};
 
 use crate::effect::{Action, Effect};
 use crate::rule::Rule;
+use crate::translation::translate;
 use crate::walk::{Decision, Walk};
 
 /// Does what a rule that matches does: a `pass` or `block` rule decides until a later one does, a
-/// `match` rule lays its parameters over the walk's, and any of them may set the tag and, by `quick`,
-/// end the walk. The rule is no anchor.
+/// `match` rule lays its parameters over the walk's and translates the packet, and any of them may set
+/// the tag and, by `quick`, end the walk. The rule is no anchor.
 #[tactic(auto, unfolding(crate::specs::Effect::effect_on))]
 pub fn apply(walk: &mut Walk, rule: &Rule)
     requires { IsFalse (is_anchor rule.now.effect.action) }
@@ -22,7 +23,10 @@ pub fn apply(walk: &mut Walk, rule: &Rule)
             walk.last = decision(effect);
             walk.matched = true;
         }
-        Action::Match => walk.params = effect.params.over(&walk.params),
+        Action::Match => {
+            walk.params = effect.params.over(&walk.params);
+            translate(&mut walk.packet, &effect.params.nat, &effect.params.rdr);
+        }
         Action::Anchor(_) => unreachable!(),
     }
     walk.tag = effect.tag.or(walk.tag);

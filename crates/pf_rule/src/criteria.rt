@@ -1,8 +1,8 @@
 //! Which packets a rule matches (pf.conf(5), PARAMETERS).
-use crate::packet::Direction;
 use pf_addr::{DynIf, Prefix, Range};
 use pf_base::{Family, Name};
 use pf_ops::{IcmpType, Op16, Op32, TcpFlags};
+use pf_parts::{Direction, IfTest, TagTest};
 
 /// The parameters of a rule: it matches the packets that meet each of them that is given.
 #[derive(Clone, Copy, Debug, PartialEq, Eq)]
@@ -32,14 +32,6 @@ pub struct Criteria {
     pub tagged: TagTest,
 }
 
-/// A test of a packet's interface.
-#[derive(Clone, Copy, Debug, PartialEq, Eq)]
-pub enum IfTest {
-    Any,
-    /// The interface has this name or is in this group; negated, it isn't.
-    On { name: Name, negated: bool },
-}
-
 /// A test of a packet's source or target.
 #[derive(Clone, Copy, Debug, PartialEq, Eq)]
 pub enum AddrTest {
@@ -59,12 +51,4 @@ pub enum AddrSet {
     Dynamic(DynIf),
     /// Those of the table that the optimiser made with this number.
     Auto(u32),
-}
-
-/// A test of the tag that a packet has at the moment.
-#[derive(Clone, Copy, Debug, PartialEq, Eq)]
-pub enum TagTest {
-    Any,
-    /// The tag is this name; negated, it isn't.
-    Is { name: Name, negated: bool },
 }

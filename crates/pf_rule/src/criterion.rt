@@ -3,12 +3,13 @@ ghost use Rattle.std.specs.Prelude.{◌≡◌};
 ghost use Rattle.pf_rule.specs.Around.{around_by};
 ghost use Rattle.pf_rule.specs.Criteria.{address_holds, direction_holds, family_holds, flags_hold, icmp_holds, in_set, is_of_family, is_tag, is_tcp_or_udp, number_holds, on_interface, same_code, same_number, same_type, tag_passes};
 
-use crate::criteria::{AddrSet, AddrTest, Criteria, IfTest, TagTest};
+use crate::criteria::{AddrSet, AddrTest, Criteria};
 use crate::members::Members;
 use crate::packet::Packet;
 use pf_addr::{Addr, Ifaces};
 use pf_base::{Family, Name};
 use pf_ops::{IcmpType, Op16, Op32};
+use pf_parts::{IfTest, TagTest};
 
 const TCP: u8 = 6;
 
@@ -89,7 +90,7 @@ fn in_set<M: Members, I: Ifaces>(what: &AddrSet, addr: &Addr, members: &M, iface
     }
 }
 
-fn has_ports(packet: &Packet) -> bool
+pub(crate) fn has_ports(packet: &Packet) -> bool
     ensures { result ≡ is_tcp_or_udp packet.now.proto }
 {
     packet.proto == TCP || packet.proto == UDP

@@ -3,8 +3,8 @@ ghost use Rattle.std.specs.Prelude.{◌≡◌};
 ghost use Rattle.pf_rule.specs.Effect.{is_anchor};
 
 use crate::params::Params;
-use crate::state::{StateKind, StateOptions};
-use pf_base::{Name, Path};
+use pf_base::Name;
+use pf_parts::{BlockKind, Call, StateKind, StateOptions};
 
 /// The effect of a rule, which is a value of the rule alone.
 #[derive(Clone, Copy, Debug, PartialEq, Eq)]
@@ -41,25 +41,4 @@ impl Action {
     {
         matches!(self, Action::Anchor(_))
     }
-}
-
-/// What a blocked packet's sender is told (pf.conf(5), "block").
-#[derive(Clone, Copy, Debug, PartialEq, Eq)]
-pub enum BlockKind {
-    /// Nothing.
-    Drop,
-    /// What fits the packet's protocol.
-    Return,
-    /// A TCP reset; a ttl of 0 means that none was written.
-    Rst { ttl: u8 },
-    /// An ICMP error with these codes for IPv4 and for IPv6.
-    Icmp { code: u8, code6: u8 },
-}
-
-/// The rulesets that an anchor rule calls: the one at this path below the rule's own, or with
-/// `children` each ruleset right below that.
-#[derive(Clone, Copy, Debug, PartialEq, Eq)]
-pub struct Call {
-    pub path: Path,
-    pub children: bool,
 }

@@ -17,13 +17,13 @@ use crate::rule::Rule;
 use crate::testing::{Tested, hit};
 use crate::walk::{Answer, Walk};
 use pf_addr::Ifaces;
-use pf_base::Steps;
+use pf_base::{Ledger, Steps};
 
 /// The answer that the rules give a packet, where no anchor has rules: the last `pass` or `block` rule
 /// that matches decides, a `quick` rule that matches ends the walk, and without a match the packet
 /// passes without state (pf.conf(5)). Each rule that is reached is tested once, which is counted.
 #[tactic(auto, using(crate::proofs::Walks::walked_stopped, crate::proofs::Walks::walked_all, crate::proofs::Walks::reached_stopped, crate::proofs::Walks::reached_all, crate::proofs::Walks::reached_few, crate::proofs::Decided::answer_decided), unfolding(crate::specs::Answer::answer_of))]
-pub fn evaluate<M: Members, I: Ifaces, L>(
+pub fn evaluate<M: Members, I: Ifaces, L: Ledger>(
     rules: &[Rule],
     packet: &Packet,
     members: &M,
@@ -33,8 +33,8 @@ pub fn evaluate<M: Members, I: Ifaces, L>(
     ensures answer { let around = around_by (M.member members.now) (I.in_group ifaces.now) (I.dynamic ifaces.now) in
         result ≡ answer_of around rules.now packet.now }
     ensures counted { let around = around_by (M.member members.now) (I.in_group ifaces.now) (I.dynamic ifaces.now) in
-        steps.new.count ≡ steps.old.count + reached around rules.now (opening_walk packet.now) }
-    ensures once { steps.new.count ≤ steps.old.count + length rules.now }
+        steps.new ≡ steps.old + reached around rules.now (opening_walk packet.now) }
+    ensures once { steps.new ≤ steps.old + length rules.now }
     ensures decided { IsTrue (is_deciding result.decision.action) }
 {
     let mut walk = Walk::begin(packet);
@@ -49,7 +49,7 @@ pub fn evaluate<M: Members, I: Ifaces, L>(
 
 // Tests a rule, and does what it does where it hits.
 #[tactic(auto, using(crate::proofs::Effects::anchor_rests))]
-fn take<M: Members, I: Ifaces, L>(
+fn take<M: Members, I: Ifaces, L: Ledger>(
     rule: &Rule,
     walk: &mut Walk,
     members: &M,
@@ -58,7 +58,7 @@ fn take<M: Members, I: Ifaces, L>(
 )
     ensures walk { let around = around_by (M.member members.now) (I.in_group ifaces.now) (I.dynamic ifaces.now) in
         walk.new ≡ walked_one around rule.now walk.old }
-    ensures counted { steps.new.count ≡ steps.old.count + 1 }
+    ensures counted { steps.new ≡ steps.old + 1 }
 {
     if let Tested::Hit = hit(rule, walk, members, ifaces, steps)
         && !rule.effect.action.is_anchor()

@@ -1,7 +1,7 @@
 //! Rules, packets and what one rule does with a packet: the tests of a rule, its effect on a walk, the
 //! answer of a walk, and what an evaluator sees of a walk.
-//! It stands on pf_base, pf_addr and pf_ops. The layers above make rules, walk through them by `Probe`,
-//! and read and write packets and answers as text.
+//! It stands on pf_base, pf_addr, pf_ops and pf_parts, whose types it hands on. The layers above make rules,
+//! walk through them by `Probe`, and read and write packets and answers as text.
 #![tactic(auto)]
 
 pub mod applying;
@@ -9,29 +9,37 @@ pub mod criteria;
 mod criterion;
 pub mod effect;
 pub mod evaluation;
+pub mod field;
 pub mod members;
 pub mod packet;
 pub mod params;
 pub mod probe;
 pub mod reply;
 pub mod rule;
-pub mod state;
 pub mod testing;
+pub mod translation;
 pub mod walk;
+pub mod walking;
 
 pub use applying::{apply, effect_twice_is_once};
-pub use criteria::{AddrSet, AddrTest, Criteria, IfTest, TagTest};
-pub use effect::{Action, BlockKind, Call, Effect};
+pub use criteria::{AddrSet, AddrTest, Criteria};
+pub use effect::{Action, Effect};
 pub use evaluation::{evaluate, last_matching_rule_decides};
+pub use field::{FieldValue, equal_fields_test_alike};
 pub use members::{Members, NoTables};
-pub use packet::{Direction, Packet};
-pub use params::{Log, Params, Prios, Queues, Scrub};
+pub use packet::Packet;
+pub use params::Params;
+pub use pf_parts::{
+    Base, BlockKind, Call, Direction, Flush, IfTest, Log, Overload, Prios, Queues, Rate, Scrub,
+    StateKind, StateOptions, TagTest, Track,
+};
 pub use probe::Probe;
 pub use reply::answer;
 pub use rule::Rule;
-pub use state::{Flush, Overload, Rate, StateKind, StateOptions, Track};
 pub use testing::{Tested, hit};
+pub use translation::Target;
 pub use walk::{Answer, Decision, Marks, Walk};
+pub use walking::laws_of_walks;
 
 #[cfg(test)]
 mod tests;

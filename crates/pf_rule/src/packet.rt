@@ -1,13 +1,7 @@
 //! What a record says of a packet.
 use pf_addr::Addr;
 use pf_base::Name;
-
-/// The way that a packet takes through its interface, `in` or `out` of pf.conf(5).
-#[derive(Clone, Copy, Debug, PartialEq, Eq)]
-pub enum Direction {
-    In,
-    Out,
-}
+use pf_parts::Direction;
 
 /// A packet. Its family is that of its source.
 #[derive(Clone, Copy, Debug, PartialEq, Eq)]

@@ -1,8 +1,10 @@
-//! The parameters that rules set (pf.conf(5), PARAMETERS and TRAFFIC NORMALISATION).
+//! The parameters that rules set (pf.conf(5), PARAMETERS, TRAFFIC NORMALISATION and
+//! TRANSLATION).
 ghost use Rattle.std.specs.Prelude.{◌≡◌};
-ghost use Rattle.pf_rule.specs.Laying.{laid_over, log_over, scrub_over};
+ghost use Rattle.pf_rule.specs.Laying.{laid_over};
 
-use pf_base::Name;
+use crate::translation::Target;
+use pf_parts::{Log, Prios, Queues, Scrub};
 
 /// The parameters of a rule, or those that a packet has got so far.
 #[derive(Clone, Copy, Debug, PartialEq, Eq)]
@@ -16,6 +18,10 @@ pub struct Params {
     pub scrub: Scrub,
     pub log: Log,
     pub allow_opts: bool,
+    /// `nat-to`
+    pub nat: Option<Target>,
+    /// `rdr-to`
+    pub rdr: Option<Target>,
 }
 
 impl Params {
@@ -27,10 +33,12 @@ impl Params {
         scrub: Scrub::NONE,
         log: Log::NONE,
         allow_opts: false,
+        nat: None,
+        rdr: None,
     };
 
-    /// These parameters over others: a value replaces the other where it is given, and what is only
-    /// set or not set stays set.
+    /// These parameters over others: a value replaces the other where it is given, as do the address and
+    /// the port of a translation, and what is only set or not set stays set.
     pub fn over(&self, old: &Params) -> Params
         ensures { result ≡ laid_over self.now old.now }
     {
@@ -41,87 +49,8 @@ impl Params {
             scrub: self.scrub.over(&old.scrub),
             log: self.log.over(&old.log),
             allow_opts: old.allow_opts || self.allow_opts,
-        }
-    }
-}
-
-/// A queue, and the one for packets with low delay and for ACKs without data.
-#[derive(Clone, Copy, Debug, PartialEq, Eq)]
-pub struct Queues {
-    pub first: Name,
-    pub second: Option<Name>,
-}
-
-/// A priority, 0 to 7, and the one for packets with low delay and for ACKs without data.
-#[derive(Clone, Copy, Debug, PartialEq, Eq)]
-pub struct Prios {
-    pub first: u8,
-    pub second: Option<u8>,
-}
-
-/// How a packet is normalised.
-#[derive(Clone, Copy, Debug, PartialEq, Eq)]
-pub struct Scrub {
-    pub no_df: bool,
-    pub random_id: bool,
-    pub reassemble_tcp: bool,
-    pub min_ttl: Option<u8>,
-    pub max_mss: Option<u16>,
-}
-
-impl Scrub {
-    /// A packet stays as it is.
-    pub const NONE: Scrub = Scrub {
-        no_df: false,
-        random_id: false,
-        reassemble_tcp: false,
-        min_ttl: None,
-        max_mss: None,
-    };
-
-    fn over(&self, old: &Scrub) -> Scrub
-        ensures { result ≡ scrub_over self.now old.now }
-    {
-        Scrub {
-            no_df: old.no_df || self.no_df,
-            random_id: old.random_id || self.random_id,
-            reassemble_tcp: old.reassemble_tcp || self.reassemble_tcp,
-            min_ttl: self.min_ttl.or(old.min_ttl),
-            max_mss: self.max_mss.or(old.max_mss),
-        }
-    }
-}
-
-/// Whether a packet is logged, and how.
-#[derive(Clone, Copy, Debug, PartialEq, Eq)]
-pub struct Log {
-    pub on: bool,
-    pub all: bool,
-    pub matches: bool,
-    pub user: bool,
-    /// The interface that it is logged to.
-    pub to: Option<Name>,
-}
-
-impl Log {
-    /// A packet isn't logged.
-    pub const NONE: Log = Log {
-        on: false,
-        all: false,
-        matches: false,
-        user: false,
-        to: None,
-    };
-
-    fn over(&self, old: &Log) -> Log
-        ensures { result ≡ log_over self.now old.now }
-    {
-        Log {
-            on: old.on || self.on,
-            all: old.all || self.all,
-            matches: old.matches || self.matches,
-            user: old.user || self.user,
-            to: self.to.or(old.to),
+            nat: Target::over(self.nat, old.nat),
+            rdr: Target::over(self.rdr, old.rdr),
         }
     }
 }

@@ -1,9 +1,9 @@
 //! What an evaluator sees of a walk.
-ghost use Rattle.std.specs.Prelude.{◌≡◌, ◌+◌, ◌↔◌, ℕ, Some, None, IsTrue, IsFalse, false};
+ghost use Rattle.std.specs.Prelude.{◌≡◌, ◌+◌, IsFalse};
 ghost use Rattle.pf_rule.specs.Answer.{answer_of_walk};
 ghost use Rattle.pf_rule.specs.Around.{around_by};
 ghost use Rattle.pf_rule.specs.Effect.{effect_on, is_anchor};
-ghost use Rattle.pf_rule.specs.Hit.{fails_at, hits_at, tested_at};
+ghost use Rattle.pf_rule.specs.Hit.{Finds};
 ghost use Rattle.pf_rule.specs.Probe.{marks_of, skipped_by, with_marks};
 
 use crate::members::Members;
@@ -12,11 +12,11 @@ use crate::testing::{Tested, hit};
 use crate::walk::{Answer, Marks, Walk};
 use crate::{applying, reply};
 use pf_addr::Ifaces;
-use pf_base::{Name, Steps};
+use pf_base::{Ledger, Name, Steps};
 
 /// A walk whose packet is hidden: it shows only by tests, which are counted under `L`, its interface
 /// also by `skips`, and its tag also by `answer`.
-pub trait Probe<L> {
+pub trait Probe<L: Ledger> {
     ghost use Rattle.pf_rule.specs.declared.walk.Walk.{Walk};
 
     ghost walk: { Self → Walk };
@@ -29,16 +29,10 @@ pub trait Probe<L> {
         ifaces: &I,
         steps: &mut Steps<L>,
     ) -> Tested
-        ensures hit { let around = around_by (M.member members.now) (I.in_group ifaces.now) (I.dynamic ifaces.now) in
-            (result ≡ Tested.Hit) ↔ IsTrue (hits_at around rule.now (walk self.old)) }
-        ensures field { let around = around_by (M.member members.now) (I.in_group ifaces.now) (I.dynamic ifaces.now) in
-            (field : ℕ) → (result ≡ Tested.Field field) ↔ (fails_at around rule.now (walk self.old) ≡ Some field) }
-        ensures other { let around = around_by (M.member members.now) (I.in_group ifaces.now) (I.dynamic ifaces.now) in
-            (result ≡ Tested.Other) ↔ ((fails_at around rule.now (walk self.old) ≡ None) × (hits_at around rule.now (walk self.old) ≡ false)) }
-        ensures value { let around = around_by (M.member members.now) (I.in_group ifaces.now) (I.dynamic ifaces.now) in
-            result ≡ tested_at around rule.now (walk self.old) }
+        ensures found { let around = around_by (M.member members.now) (I.in_group ifaces.now) (I.dynamic ifaces.now) in
+            Finds around rule.now (walk self.old) result }
         ensures same { walk self.new ≡ walk self.old }
-        ensures counted { steps.new.count ≡ steps.old.count + 1 };
+        ensures counted { steps.new ≡ steps.old + 1 };
 
     /// Does what a rule that matches does. The rule is no anchor.
     fn apply(&mut self, rule: &Rule)
@@ -62,7 +56,7 @@ pub trait Probe<L> {
         ensures { result ≡ answer_of_walk (walk self.now) };
 }
 
-impl<L> Probe<L> for Walk {
+impl<L: Ledger> Probe<L> for Walk {
     ghost walk = { λ walk. walk };
 
     fn test<M: Members, I: Ifaces>(

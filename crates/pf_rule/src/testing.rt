@@ -1,7 +1,7 @@
 //! The test of one rule.
-ghost use Rattle.std.specs.Prelude.{◌≡◌, ◌+◌, ◌↔◌, ℕ, Some, None, IsTrue, false};
+ghost use Rattle.std.specs.Prelude.{◌≡◌, ◌+◌};
 ghost use Rattle.pf_rule.specs.Around.{around_by};
-ghost use Rattle.pf_rule.specs.Hit.{all_hold, failing_field, fails_at, hits_at, other_tests, tested_at};
+ghost use Rattle.pf_rule.specs.Hit.{Finds, all_hold, failing_field, other_tests};
 
 use crate::criteria::Criteria;
 use crate::criterion::{
@@ -13,7 +13,7 @@ use crate::packet::Packet;
 use crate::rule::Rule;
 use crate::walk::Walk;
 use pf_addr::Ifaces;
-use pf_base::Steps;
+use pf_base::{Ledger, Steps};
 
 /// What the test of a rule finds.
 #[derive(Clone, Copy, Debug, PartialEq, Eq)]
@@ -45,23 +45,17 @@ const TARGET: u8 = 6;
 const TARGET_PORT: u8 = 7;
 
 /// Tests a rule at a walk, which is counted (pf.conf(5), PARAMETERS).
-#[tactic(auto, using(crate::proofs::Founds::hits_failing, crate::proofs::Founds::hits_others, crate::proofs::Founds::tested_hit, crate::proofs::Founds::tested_missed))]
-pub fn hit<M: Members, I: Ifaces, L>(
+#[tactic(auto, using(crate::proofs::Founds::finds_field, crate::proofs::Founds::finds_hit, crate::proofs::Founds::finds_other))]
+pub fn hit<M: Members, I: Ifaces, L: Ledger>(
     rule: &Rule,
     walk: &Walk,
     members: &M,
     ifaces: &I,
     steps: &mut Steps<L>,
 ) -> Tested
-    ensures hit { let around = around_by (M.member members.now) (I.in_group ifaces.now) (I.dynamic ifaces.now) in
-        (result ≡ Tested.Hit) ↔ IsTrue (hits_at around rule.now walk.now) }
-    ensures field { let around = around_by (M.member members.now) (I.in_group ifaces.now) (I.dynamic ifaces.now) in
-        (field : ℕ) → (result ≡ Tested.Field field) ↔ (fails_at around rule.now walk.now ≡ Some field) }
-    ensures other { let around = around_by (M.member members.now) (I.in_group ifaces.now) (I.dynamic ifaces.now) in
-        (result ≡ Tested.Other) ↔ ((fails_at around rule.now walk.now ≡ None) × (hits_at around rule.now walk.now ≡ false)) }
-    ensures value { let around = around_by (M.member members.now) (I.in_group ifaces.now) (I.dynamic ifaces.now) in
-        result ≡ tested_at around rule.now walk.now }
-    ensures counted { steps.new.count ≡ steps.old.count + 1 }
+    ensures found { let around = around_by (M.member members.now) (I.in_group ifaces.now) (I.dynamic ifaces.now) in
+        Finds around rule.now walk.now result }
+    ensures counted { steps.new ≡ steps.old + 1 }
 {
     steps.tick();
     match failing_field(&rule.criteria, &walk.packet, members, ifaces) {

@@ -1,6 +1,6 @@
 use crate::*;
 use pf_addr::{Addr, DynIf, Ifaces, Prefix, Range, parse_addr, parse_prefix};
-use pf_base::{Family, Ledger, Name, Steps};
+use pf_base::{Family, Name, Steps, Uncounted};
 use pf_ops::{IcmpType, Op16, Op32, OpKind, TcpFlags};
 use std::test::Fail;
 
@@ -410,7 +410,7 @@ fn the_default_rules_decide(rt: HostRuntime) -> Result<(), Fail> {
 }
 
 // Tests a rule at a probe of any type, and does what it does where it hits.
-fn probed<P: Probe<Ledger>>(probe: &mut P, rule: &Rule) -> Result<Tested, Fail> {
+fn probed<P: Probe<Uncounted>>(probe: &mut P, rule: &Rule) -> Result<Tested, Fail> {
     let mut steps = Steps::start();
     let host = make_host()?;
     let found = probe.test(rule, &NoTables, &host, &mut steps);
@@ -472,7 +472,7 @@ fn match_rules_set_tags_and_parameters(rt: HostRuntime) -> Result<(), Fail> {
 }
 
 // The marks of a probe, before and after one is set.
-fn marked<P: Probe<Ledger>>(probe: &mut P) -> (Marks, Marks) {
+fn marked<P: Probe<Uncounted>>(probe: &mut P) -> (Marks, Marks) {
     let first = probe.marks();
     probe.set_marks(Marks {
         matched: true,
@@ -482,7 +482,7 @@ fn marked<P: Probe<Ledger>>(probe: &mut P) -> (Marks, Marks) {
 }
 
 // Whether a probe is on the interface tun0 or on this one.
-fn skipped<P: Probe<Ledger>>(probe: &P, iface: &str) -> Result<bool, Fail> {
+fn skipped<P: Probe<Uncounted>>(probe: &P, iface: &str) -> Result<bool, Fail> {
     let names = [name("tun0")?, name(iface)?];
     let host = make_host()?;
     Ok(probe.skips(&names, &host))
@@ -512,6 +512,329 @@ fn marks_and_skipped_interfaces(rt: HostRuntime) -> Result<(), Fail> {
         assert!(rt; !first.matched && !first.stop);
         assert!(rt; second.matched && !second.stop);
         assert_eq!(rt; found, skips, "{skip}");
+    }
+    Ok(())
+}
+
+#[test]
+fn groups_and_priorities_are_tested(rt: HostRuntime) -> Result<(), Fail> {
+    let packet = syn("10.0.0.1", "192.0.2.10", 22)?;
+    let wheel = Criteria {
+        group: Some(Op32::make(OpKind::Equal, 10, 0)),
+        ..ANY
+    };
+    let urgent = Criteria {
+        prio: Some(6),
+        ..ANY
+    };
+    for (criteria, group, prio, want) in [
+        (wheel, Some(10), 3, Tested::Hit),
+        (wheel, Some(11), 3, Tested::Other),
+        (wheel, None, 3, Tested::Other),
+        (urgent, None, 6, Tested::Hit),
+        (urgent, None, 3, Tested::Other),
+    ] {
+        let packet = Packet {
+            group,
+            prio,
+            ..packet
+        };
+        assert_eq!(rt; found(&criteria, &packet)?, want, "{group:?} {prio}");
+    }
+    Ok(())
+}
+
+// `pass`, which makes a state.
+const PASS: Effect = Effect {
+    action: Action::Pass,
+    state: StateKind::Keep,
+    ..BLOCK
+};
+
+// `match`.
+const MATCH: Effect = Effect {
+    action: Action::Match,
+    ..BLOCK
+};
+
+#[test]
+fn rules_mark_the_walk(rt: HostRuntime) -> Result<(), Fail> {
+    let packet = syn("10.0.0.1", "192.0.2.10", 22)?;
+    for (effect, quick, matched) in [
+        (PASS, true, true),
+        (PASS, false, true),
+        (BLOCK, true, true),
+        (MATCH, true, false),
+        (MATCH, false, false),
+    ] {
+        let rule = Rule {
+            criteria: ANY,
+            effect: Effect { quick, ..effect },
+        };
+        let mut walk = Walk::begin(&packet);
+        if rule.effect.action.is_anchor() {
+            continue;
+        }
+        apply(&mut walk, &rule);
+        assert_eq!(rt; walk.stop, quick);
+        assert_eq!(rt; walk.matched, matched);
+    }
+    Ok(())
+}
+
+// The answer of rules to a packet, on the host of the tests and without tables.
+fn evaluated(rules: &[Rule], packet: &Packet) -> Result<Answer, Fail> {
+    let mut steps = Steps::start();
+    let host = make_host()?;
+    Ok(evaluate(rules, packet, &NoTables, &host, &mut steps))
+}
+
+#[test]
+fn no_rule_behind_a_quick_one_is_evaluated(rt: HostRuntime) -> Result<(), Fail> {
+    let packet = syn("10.0.0.1", "192.0.2.10", 22)?;
+    let quick = Rule {
+        criteria: ANY,
+        effect: Effect {
+            quick: true,
+            ..BLOCK
+        },
+    };
+    let tagging = Rule {
+        criteria: ANY,
+        effect: Effect {
+            tag: Some(name("late")?),
+            ..PASS
+        },
+    };
+    let answer = evaluated(&[quick, tagging], &packet)?;
+    assert_eq!(rt; answer.decision.action, Action::Block(BlockKind::Return));
+    assert_eq!(rt; answer.tag, None);
+    let answer = evaluated(&[tagging, quick], &packet)?;
+    assert_eq!(rt; answer.decision.action, Action::Block(BlockKind::Return));
+    assert_eq!(rt; answer.tag, Some(name("late")?));
+    Ok(())
+}
+
+// What a probe of any type answers, and what it answers once a rule has matched.
+fn answers<P: Probe<Uncounted>>(probe: &mut P, rule: &Rule) -> Result<(Answer, Answer), Fail> {
+    let first = probe.answer();
+    probed(probe, rule)?;
+    Ok((first, probe.answer()))
+}
+
+#[test]
+fn a_probe_answers(rt: HostRuntime) -> Result<(), Fail> {
+    let packet = syn("10.0.0.1", "192.0.2.10", 22)?;
+    let mut walk = Walk::begin(&packet);
+    let rule = Rule {
+        criteria: ANY,
+        effect: Effect {
+            label: Some(name("spam")?),
+            ..BLOCK
+        },
+    };
+    let (first, second) = answers(&mut walk, &rule)?;
+    assert_eq!(rt; first.decision.action, Action::Pass);
+    assert_eq!(rt; first.decision.state, StateKind::None);
+    assert_eq!(rt; second.decision.action, Action::Block(BlockKind::Return));
+    assert_eq!(rt; second.decision.label, Some(name("spam")?));
+    Ok(())
+}
+
+fn target(addr_text: &str, port: Option<u16>) -> Result<Option<Target>, Fail> {
+    Ok(Some(Target {
+        addr: addr(addr_text)?,
+        port,
+    }))
+}
+
+// What the rules with these translations of the source make of the source and target of a packet.
+fn translated(packet: &Packet, nat: &[Option<Target>]) -> Result<Walk, Fail> {
+    let mut walk = Walk::begin(packet);
+    for new in nat {
+        let mut effect = MATCH;
+        effect.params.nat = *new;
+        let rule = Rule {
+            criteria: ANY,
+            effect,
+        };
+        probed(&mut walk, &rule)?;
+    }
+    Ok(walk)
+}
+
+#[test]
+fn match_rules_translate(rt: HostRuntime) -> Result<(), Fail> {
+    let ported = target("192.0.2.10", Some(5000))?;
+    let plain = target("192.0.2.11", None)?;
+    let other_family = target("2001:db8::1", Some(5000))?;
+    for (proto, nat, source, port) in [
+        (6, [ported, None], "192.0.2.10", 5000),
+        (17, [ported, plain], "192.0.2.11", 5000),
+        (6, [plain, None], "192.0.2.11", 1024),
+        (1, [ported, None], "192.0.2.10", 1024),
+        (6, [other_family, None], "10.0.0.1", 1024),
+    ] {
+        let packet = Packet {
+            proto,
+            ..syn("10.0.0.1", "198.51.100.7", 80)?
+        };
+        let walk = translated(&packet, &nat)?;
+        let want = addr(source)?;
+        assert_eq!(rt; walk.packet.source, want, "{proto} {nat:?}");
+        assert_eq!(rt; walk.packet.source_port, Some(port), "{proto} {nat:?}");
+        assert_eq!(rt; walk.packet.target, packet.target, "{proto} {nat:?}");
+        assert_eq!(rt; walk.packet.target_port, Some(80), "{proto} {nat:?}");
+    }
+    let walk = translated(&syn("10.0.0.1", "198.51.100.7", 80)?, &[ported, plain])?;
+    assert_eq!(rt; answer(&walk).decision.params.nat, target("192.0.2.11", Some(5000))?);
+    Ok(())
+}
+
+// `block drop all`, `match out on em0 inet from 10.0.0.0/8 nat-to 192.0.2.10` and
+// `pass out on em0 from 192.0.2.10`.
+fn source_rules() -> Result<[Rule; 3], Fail> {
+    let out = Criteria {
+        direction: Some(Direction::Out),
+        iface: IfTest::On {
+            name: name("em0")?,
+            negated: false,
+        },
+        ..ANY
+    };
+    let inner = Criteria {
+        family: Some(Family::Inet),
+        source: AddrTest::Test {
+            negated: false,
+            what: prefix("10.0.0.0/8")?,
+        },
+        ..out
+    };
+    let outer = Criteria {
+        source: AddrTest::Test {
+            negated: false,
+            what: prefix("192.0.2.10")?,
+        },
+        ..out
+    };
+    let mut nat = MATCH;
+    nat.params.nat = target("192.0.2.10", None)?;
+    Ok([
+        Rule {
+            criteria: ANY,
+            effect: Effect {
+                action: Action::Block(BlockKind::Drop),
+                ..BLOCK
+            },
+        },
+        Rule {
+            criteria: inner,
+            effect: nat,
+        },
+        Rule {
+            criteria: outer,
+            effect: PASS,
+        },
+    ])
+}
+
+#[test]
+fn later_rules_test_the_new_source(rt: HostRuntime) -> Result<(), Fail> {
+    let rules = source_rules()?;
+    let new = target("192.0.2.10", None)?;
+    for (source, passes, nat) in [
+        ("10.0.0.1", true, new),
+        ("192.168.0.1", false, None),
+        ("192.0.2.10", true, None),
+    ] {
+        let packet = Packet {
+            direction: Direction::Out,
+            proto: 17,
+            flags: 0,
+            ..syn(source, "198.51.100.7", 53)?
+        };
+        let decision = evaluated(&rules, &packet)?.decision;
+        assert_eq!(rt; decision.action == Action::Pass, passes, "{source}");
+        assert_eq!(rt; decision.params.nat, nat, "{source}");
+        assert_eq!(rt; decision.params.rdr, None, "{source}");
+    }
+    Ok(())
+}
+
+// A rule with this action: `in on em0 proto tcp to 192.0.2.10 port 80 rdr-to 10.0.0.5 port 8080`, and
+// then `pass in proto tcp to 10.0.0.5 port 8080 tag seen`.
+fn target_rules(first: Effect) -> Result<[Rule; 2], Fail> {
+    let tcp_in = Criteria {
+        direction: Some(Direction::In),
+        proto: Some(6),
+        ..ANY
+    };
+    let outer = Criteria {
+        iface: IfTest::On {
+            name: name("em0")?,
+            negated: false,
+        },
+        target: AddrTest::Test {
+            negated: false,
+            what: prefix("192.0.2.10")?,
+        },
+        target_port: Some(Op16::make(OpKind::Equal, 80, 0)),
+        ..tcp_in
+    };
+    let inner = Criteria {
+        target: AddrTest::Test {
+            negated: false,
+            what: prefix("10.0.0.5")?,
+        },
+        target_port: Some(Op16::make(OpKind::Equal, 8080, 0)),
+        ..tcp_in
+    };
+    let mut rdr = first;
+    rdr.params.rdr = target("10.0.0.5", Some(8080))?;
+    Ok([
+        Rule {
+            criteria: outer,
+            effect: rdr,
+        },
+        Rule {
+            criteria: inner,
+            effect: Effect {
+                tag: Some(name("seen")?),
+                ..PASS
+            },
+        },
+    ])
+}
+
+#[test]
+fn a_pass_rule_translates_no_packet_for_later_rules(rt: HostRuntime) -> Result<(), Fail> {
+    let packet = syn("198.51.100.7", "192.0.2.10", 80)?;
+    let new = target("10.0.0.5", Some(8080))?;
+    for (first, tag) in [(PASS, None), (MATCH, Some(name("seen")?))] {
+        let answer = evaluated(&target_rules(first)?, &packet)?;
+        assert_eq!(rt; answer.decision.action, Action::Pass);
+        assert_eq!(rt; answer.decision.state, StateKind::Keep);
+        assert_eq!(rt; answer.decision.params.rdr, new);
+        assert_eq!(rt; answer.decision.params.nat, None);
+        assert_eq!(rt; answer.tag, tag);
+    }
+    Ok(())
+}
+
+#[test]
+fn skip_fields_have_values(rt: HostRuntime) -> Result<(), Fail> {
+    let criteria = Criteria {
+        proto: Some(6),
+        target_port: Some(Op16::make(OpKind::Equal, 80, 0)),
+        ..ANY
+    };
+    for field in 0..8 {
+        let given = match criteria.field_value(field) {
+            FieldValue::Protocol(proto) => proto == Some(6),
+            FieldValue::Port(Some(set)) => set.holds(80),
+            _ => false,
+        };
+        assert_eq!(rt; given, field == 3 || field == 7, "{field}");
     }
     Ok(())
 }

@@ -5,8 +5,8 @@ ghost use Rattle.pf_rule.specs.Opening.{opening_walk};
 use crate::effect::Action;
 use crate::packet::Packet;
 use crate::params::Params;
-use crate::state::{StateKind, StateOptions};
 use pf_base::Name;
+use pf_parts::{StateKind, StateOptions};
 
 /// A packet on its way through the rules.
 #[derive(Clone, Copy, Debug, PartialEq, Eq)]

@@ -1,7 +1,8 @@
 use Rattle.std.proofs.Common.{◌++◌, codes}
 use Rattle.std.specs.Option.{option_map}
-use Rattle.pf_record.specs.AnswerText.{answer_parts, block_text}
-use Rattle.pf_record.specs.ParamText.{label_text, log_text, tag_text}
+use Rattle.pf_parts.specs.BlockText.{block_text}
+use Rattle.pf_record.specs.AnswerText.{answer_parts}
+use Rattle.pf_parts.specs.ParamText.{label_text, log_text, tag_text}
 use Rattle.pf_record.proofs.JoinLemmas.{block_joined}
 use Rattle.pf_record.proofs.answer.append_block.Goals as goal
 

@@ -1,9 +1,9 @@
 use Rattle.std.proofs.Common.{◌++◌, codes}
 use Rattle.std.specs.Option.{option_map}
 use Rattle.pf_record.specs.AnswerText.{answer_parts}
-use Rattle.pf_record.specs.ParamText.{label_text, log_text, prio_text, queue_text, scrub_text, tag_text}
-use Rattle.pf_record.specs.Parts.{with_number, word_if}
-use Rattle.pf_record.specs.StateText.{state_text}
+use Rattle.pf_parts.specs.ParamText.{label_text, log_text, prio_text, queue_text, scrub_text, tag_text}
+use Rattle.pf_parts.specs.Parts.{with_number, word_if}
+use Rattle.pf_parts.specs.StateText.{state_text}
 use Rattle.pf_record.proofs.JoinLemmas.{Extends-then, pass_joined}
 use Rattle.pf_record.proofs.answer.append_pass.Goals as goal
 

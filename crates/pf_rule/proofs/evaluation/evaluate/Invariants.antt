@@ -10,5 +10,5 @@ invariant-loop-rule g l =
     let around = around_by (g.M.Members.member l.members) (g.I.Ifaces.in_group l.ifaces) (g.I.Ifaces.dynamic l.ifaces) in
     record {
       rest : walked around (drop l.rule-index l.rules) l.walk ≡ walked around l.rules (opening_walk l.fn.packet);
-      counted : l.steps.count + reached around (drop l.rule-index l.rules) l.walk ≡ l.fn.steps.count + reached around l.rules (opening_walk l.fn.packet);
+      counted : l.steps + reached around (drop l.rule-index l.rules) l.walk ≡ l.fn.steps + reached around l.rules (opening_walk l.fn.packet);
     }

@@ -1,0 +1,10 @@
+pub mod Appending
+pub mod BlockText
+pub mod Defaults
+pub mod Equal
+pub mod Items
+pub mod Laying
+pub mod NameText
+pub mod ParamText
+pub mod Parts
+pub mod StateText
