@@ -103,10 +103,11 @@ pub data Loads (disk : Disk) (defines : List Define) (file : List ℕ) : Outcome
       → fault_of later.names lexical_fault ≡ Some fault
       → Loads disk defines file (Err fault)
 
--- A load comes to something.
+-- A load comes to something, and that is no want of memory.
 pub record HasOutcome (disk : Disk) (defines : List Define) (file : List ℕ) : Type 0 where
   pub outcome : Outcome
   pub loads : Loads disk defines file outcome
+  pub enough : outcome ≡ Err NoMemory → ⊥
 
 -- What a call may answer, by what comes over a disk. A file that can't be read is as if absent, and that for the whole
 -- call: where a file is read twice and its second read fails, the answer is what comes over the disk without it, which is
