@@ -1,13 +1,12 @@
 -- Something comes next of each unit: each statement leaves less to do.
-use Rattle.std.proofs.Common.{◌≡◌, ℕ, ◌+◌, ◌*◌, ◌-◌, ◌<◌, ◌≤◌, Bool, true, false, cond, List, [], ◌∷◌, Option, Some, None, Result, Ok, Err, length, refl, ap, sym, ◌∙◌, subst, inl, inr, arith}
-use Rattle.std.specs.Prelude.{◌⊎◌, ◌==◌, ◌&&◌, min, nat_le, if◌then◌else◌}
+use Rattle.std.proofs.Common.{◌≡◌, ℕ, ◌+◌, ◌*◌, ◌-◌, ◌≤◌, Bool, true, false, cond, List, [], ◌∷◌, Option, Some, None, Result, Ok, Err, length, refl, ap, ◌∙◌, subst, inl, inr, arith}
+use Rattle.std.specs.Prelude.{◌==◌, ◌&&◌, min, nat_le, if◌then◌else◌}
 use Rattle.std.proofs.lemmas.Bool.{leb-true}
 use Rattle.pf_base.specs.declared.fault.Place.{Place}
 use Rattle.pf_source.specs.Disk.{AreAbsent, Disk}
 use Rattle.pf_token.specs.declared.cell.Cell.{Cell}
 use Rattle.pf_token.specs.declared.token.Cause.{Cause}
 use Rattle.pf_token.specs.declared.token.Cause.TheVariants as causes
-use Rattle.pf_token.specs.declared.token.Fault.{Fault as FaultOf}
 use Rattle.pf_token.specs.Cells.{below as line_below, cells_from, place_after}
 use Rattle.pf_token.specs.Coming.{Descends, IsBelow, IsLess, below, dollars}
 use Rattle.pf_token.specs.Macros.{Table}
@@ -19,9 +18,9 @@ use Rattle.pf_lexer.specs.Calls.{IsTrueTo, unread_by, unread_in}
 use Rattle.pf_lexer.specs.Coming.{HasLead, HasStatements}
 use Rattle.pf_lexer.specs.Deeds.{Does}
 use Rattle.pf_lexer.specs.ReadSoFar.{ReadSoFar}
-use Rattle.pf_lexer.specs.Reads.{Look, absent, given, look_of, look_up, number_of, read_limit, too_large}
-use Rattle.pf_lexer.specs.Stages.{Standing, Stage, going, failed}
-use Rattle.pf_lexer.specs.Units.{Answer, Answers, GoesTo, Handed, Leads, Opens, Passes, UnitOf, answered, further, here, large, lexical, opened, start_in, unread}
+use Rattle.pf_lexer.specs.Reads.{given, look_of, look_up, number_of, read_limit, too_large}
+use Rattle.pf_lexer.specs.Stages.{Standing, Stage, going}
+use Rattle.pf_lexer.specs.Units.{Answer, Answers, GoesTo, Handed, Leads, Opens, Passes, UnitOf, further, here, large, lexical, opened, unread}
 use Rattle.pf_lexer.proofs.Finding.{HasDeed, Lessens}
 
 -- the cells of a file are no more than its bytes

@@ -13,7 +13,7 @@ use Rattle.pf_lexer.specs.Calls.{AnswersNumbered, IsGoing, IsKnown, IsNumbered, 
 use Rattle.pf_lexer.specs.ReadSoFar.{ReadSoFar}
 use Rattle.pf_lexer.specs.Stages.{Standing, Stage, going}
 use Rattle.pf_lexer.specs.Statements.{IsStatement}
-use Rattle.pf_lexer.specs.Units.{Answer, Leads, Opens, UnitOf}
+use Rattle.pf_lexer.specs.Units.{Answer, Leads, UnitOf}
 
 -- Cells have a statement at their front.
 pub record HasStatement (values : List ℕ → Option (List ℕ)) (cells : List Cell) : Type 0 where
