@@ -1,9 +1,12 @@
 pub mod Cover
 pub mod Network
+pub mod Stretches
 pub mod Values
 pub mod Texts
 pub mod Short
 pub mod Prefixes
+pub mod Equal
+pub mod OneWord
 pub mod Digits
 pub mod Groups
 pub mod Printed

@@ -1,5 +1,5 @@
 -- Each statement ends, and does something.
-use Rattle.std.proofs.Common.{◌≡◌, ℕ, ◌+◌, ◌<◌, ◌≤◌, Bool, true, false, zero, suc, List, [], ◌∷◌, ◌++◌, Option, Some, None, length, length-append, refl, ap, sym, ◌∙◌, subst, inl, inr, arith}
+use Rattle.std.proofs.Common.{◌≡◌, ℕ, ◌<◌, ◌≤◌, Bool, true, false, zero, suc, List, [], ◌∷◌, ◌++◌, Option, Some, None, length, length-append, refl, ap, sym, ◌∙◌, subst, inl, inr, arith}
 use Rattle.std.specs.Prelude.{◌⊎◌, ◌&&◌}
 use Rattle.std.proofs.Math.Nat.{eq-or-lt_of_le}
 use Rattle.std.proofs.lemmas.Bool.{and_parts, both_ways}
@@ -9,7 +9,7 @@ use Rattle.pf_token.specs.declared.token.Lexeme.{Lexeme}
 use Rattle.pf_token.specs.Coming.{Comes, Descends, IsBelow, IsLess, below, dollars, none, one}
 use Rattle.pf_token.specs.Kinds.{is_newline, is_sign}
 use Rattle.pf_token.specs.Macros.{Table, value_of}
-use Rattle.pf_token.specs.Pieces.{Next, NextIsOne, NoMore}
+use Rattle.pf_token.specs.Pieces.{Next, NextIsOne}
 use Rattle.pf_lexer.specs.declared.deed.Deed.{Deed}
 use Rattle.pf_lexer.specs.declared.deed.Deed.TheVariants as deeds
 use Rattle.pf_lexer.specs.declared.statement.Close.{Close}
@@ -186,9 +186,9 @@ module _ (law : (values : List ℕ → Option (List ℕ)) → NextIsOne values) 
   by_view (one {after = next} at less) =
       let here = found (value_of macros) (law (value_of macros)) (comes (value_of macros)) descends cells in
       by_fault here.lexemes here.close here.after here.is here.fine (rest_here here.after here.rest) (decided (faults_of includes here.lexemes here.close)) refl where
-    rest_here : (after : List Cell) → IsRest after cells → IsLess after cells
-    rest_here after (inl is) = subst (λ (t : List Cell). IsLess t cells) (sym is) (none_less next cells less)
-    rest_here after (inr lower) = lower
+        rest_here : (after : List Cell) → IsRest after cells → IsLess after cells
+        rest_here after (inl is) = subst (λ (t : List Cell). IsLess t cells) (sym is) (none_less next cells less)
+        rest_here after (inr lower) = lower
 
   -- a statement does something
   pub has_deed : HasDeed includes macros cells

@@ -1,5 +1,5 @@
 -- One statement after the other.
-use Rattle.std.proofs.Common.{◌≡◌, ℕ, ◌≤◌, List, [], ◌∷◌, ◌++◌, Option, Some, None, Ok, Err, length, refl, ap, sym, ◌∙◌, subst, append_assoc, append-nil, arith}
+use Rattle.std.proofs.Common.{◌≡◌, ℕ, List, [], ◌++◌, Some, Err, ap, sym, ◌∙◌, append_assoc, append-nil, arith}
 use Rattle.pf_source.specs.Told.{FilesTold, Held}
 use Rattle.pf_source.proofs.Asking.{asked_on, nothing_asked}
 use Rattle.pf_source.specs.Disk.{Disk}
@@ -8,10 +8,10 @@ use Rattle.pf_token.specs.declared.token.Cause.{Cause}
 use Rattle.pf_token.specs.declared.token.Cause.TheVariants as causes
 use Rattle.pf_token.specs.declared.token.Fault.{Fault as FaultOf}
 use Rattle.pf_lexer.specs.declared.fault.LexFault.{LexFault}
-use Rattle.pf_lexer.specs.Calls.{AsksAndReads, RunsOut, LacksMemoryIn, StopsWith, unread_by, unread_from}
+use Rattle.pf_lexer.specs.Calls.{AsksAndReads, RunsOut, StopsWith, unread_by, unread_from}
 use Rattle.pf_lexer.specs.Going.{IsStopped}
 use Rattle.pf_lexer.specs.ReadSoFar.{ReadSoFar}
-use Rattle.pf_lexer.specs.Reads.{GoesOn, Made}
+use Rattle.pf_lexer.specs.Reads.{Made}
 use Rattle.pf_lexer.specs.Stages.{Standing, Stage, going, failed}
 use Rattle.pf_lexer.specs.Units.{Answer, Answers, GoesTo, here, further, Leads, Passes, answered, lexical}
 use Rattle.pf_lexer.proofs.StopLemmas.{by_memory}

@@ -1,13 +1,12 @@
 -- Something comes next of each unit: each statement leaves less to do.
-use Rattle.std.proofs.Common.{◌≡◌, ℕ, ◌+◌, ◌*◌, ◌-◌, ◌<◌, ◌≤◌, Bool, true, false, cond, List, [], ◌∷◌, Option, Some, None, Result, Ok, Err, length, refl, ap, sym, ◌∙◌, subst, inl, inr, arith}
-use Rattle.std.specs.Prelude.{◌⊎◌, ◌==◌, ◌&&◌, min, nat_le, if◌then◌else◌}
+use Rattle.std.proofs.Common.{◌≡◌, ℕ, ◌+◌, ◌*◌, ◌-◌, ◌≤◌, Bool, true, false, cond, List, [], ◌∷◌, Option, Some, None, Result, Ok, Err, length, refl, ap, ◌∙◌, subst, inl, inr, arith}
+use Rattle.std.specs.Prelude.{◌==◌, ◌&&◌, min, nat_le, if◌then◌else◌}
 use Rattle.std.proofs.lemmas.Bool.{leb-true}
 use Rattle.pf_base.specs.declared.fault.Place.{Place}
 use Rattle.pf_source.specs.Disk.{AreAbsent, Disk}
 use Rattle.pf_token.specs.declared.cell.Cell.{Cell}
 use Rattle.pf_token.specs.declared.token.Cause.{Cause}
 use Rattle.pf_token.specs.declared.token.Cause.TheVariants as causes
-use Rattle.pf_token.specs.declared.token.Fault.{Fault as FaultOf}
 use Rattle.pf_token.specs.Cells.{below as line_below, cells_from, place_after}
 use Rattle.pf_token.specs.Coming.{Descends, IsBelow, IsLess, below, dollars}
 use Rattle.pf_token.specs.Macros.{Table}
@@ -16,12 +15,12 @@ use Rattle.pf_lexer.specs.declared.deed.Deed.TheVariants as deeds
 use Rattle.pf_lexer.specs.declared.deed.Statement.{Statement}
 use Rattle.pf_lexer.specs.declared.fault.LexFault.{LexFault}
 use Rattle.pf_lexer.specs.Calls.{IsTrueTo, unread_by, unread_in}
-use Rattle.pf_lexer.specs.Coming.{HasLead, HasStatements, IsRead}
+use Rattle.pf_lexer.specs.Coming.{HasLead, HasStatements}
 use Rattle.pf_lexer.specs.Deeds.{Does}
 use Rattle.pf_lexer.specs.ReadSoFar.{ReadSoFar}
-use Rattle.pf_lexer.specs.Reads.{Look, absent, given, look_of, look_up, number_of, read_limit, too_large}
-use Rattle.pf_lexer.specs.Stages.{Standing, Stage, going, failed}
-use Rattle.pf_lexer.specs.Units.{Answer, Answers, GoesTo, Handed, Leads, Opens, Passes, UnitOf, answered, further, here, large, lexical, opened, start_in, unread}
+use Rattle.pf_lexer.specs.Reads.{given, look_of, look_up, number_of, read_limit, too_large}
+use Rattle.pf_lexer.specs.Stages.{Standing, Stage, going}
+use Rattle.pf_lexer.specs.Units.{Answer, Answers, GoesTo, Handed, Leads, Opens, Passes, UnitOf, further, here, large, lexical, opened, unread}
 use Rattle.pf_lexer.proofs.Finding.{HasDeed, Lessens}
 
 -- the cells of a file are no more than its bytes
@@ -43,12 +42,12 @@ cells_few place (byte ∷ next ∷ rest) = by_splice ((byte == 92) && (next == 1
   by_splice false far near = let one = dollar_least (byte == 36) in (omega (arith, near.0), omega (arith, near.1))
 
 -- what a disk answers, and what that says of its file
-pub data Looked (disk : Disk) (name : List ℕ) (reads : ReadSoFar) : Type 0 where
+data Looked (disk : Disk) (name : List ℕ) (reads : ReadSoFar) : Type 0 where
   none : disk name ≡ None → Looked disk name reads
   many : (number : ℕ) → look_up disk reads name ≡ too_large number → Looked disk name reads
   some : (number : ℕ) (bytes : List ℕ) → look_up disk reads name ≡ given number bytes → length bytes ≤ reads.left → Looked disk name reads
 
-pub looked : (disk : Disk) (name : List ℕ) (reads : ReadSoFar) → Looked disk name reads
+looked : (disk : Disk) (name : List ℕ) (reads : ReadSoFar) → Looked disk name reads
 looked disk name reads = by_held (disk name) refl where
   by_size : (bytes : List ℕ) → disk name ≡ Some bytes → (b : Bool) → nat_le (length bytes) (read_limit reads.left) ≡ b → Looked disk name reads
   by_size bytes is true fits =
@@ -60,8 +59,14 @@ looked disk name reads = by_held (disk name) refl where
   by_held None is = none is
   by_held (Some bytes) is = by_size bytes is (nat_le (length bytes) (read_limit reads.left)) refl
 
--- a file is read, or it isn't
-pub is_read : (disk : Disk) (name : List ℕ) (reads : ReadSoFar) → IsRead disk name reads
+-- A file is read over a disk: it can be, or it isn't there, or it is too large.
+record IsRead (disk : Disk) (name : List ℕ) (reads : ReadSoFar) : Type 0 where
+  result : Result (List Cell) LexFault
+  later : ReadSoFar
+  opens : Opens disk name reads result later
+  is_true : AreAbsent disk (unread_in result)
+
+is_read : (disk : Disk) (name : List ℕ) (reads : ReadSoFar) → IsRead disk name reads
 is_read disk name reads = by_look (looked disk name reads) where
   by_look : Looked disk name reads → IsRead disk name reads
   by_look (none gone) = record { result = _; later = _; opens = unread; is_true = (gone, tt) }

@@ -1,7 +1,6 @@
 -- The statements of a unit are one list.
 use Rattle.std.proofs.Common.{◌≡◌, ℕ, List, [], ◌∷◌, Option, Some, None, Ok, Err, refl, ap, sym, ◌∙◌, subst}
 use Rattle.pf_source.specs.Disk.{Disk}
-use Rattle.pf_token.specs.declared.cell.Cell.{Cell}
 use Rattle.pf_token.specs.Macros.{Table}
 use Rattle.pf_token.specs.Pieces.{NextIsOne}
 use Rattle.pf_lexer.specs.declared.deed.Statement.{Statement}

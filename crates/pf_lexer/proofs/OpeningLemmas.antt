@@ -1,5 +1,5 @@
 -- What comes of reading a file.
-use Rattle.std.proofs.Common.{◌≡◌, ℕ, ◌+◌, ◌*◌, ◌-◌, ◌^◌, ◌<◌, ◌≤◌, Bool, true, false, cond, List, [], ◌∷◌, ◌++◌, length, Option, Some, Result, Ok, Err, IfOk, refl, ap, sym, ◌∙◌, subst, arith}
+use Rattle.std.proofs.Common.{◌≡◌, ℕ, ◌+◌, ◌*◌, ◌-◌, ◌^◌, ◌≤◌, Bool, true, false, cond, List, [], ◌∷◌, length, Some, Result, Ok, Err, IfOk, refl, ap, sym, ◌∙◌, subst, arith}
 use Rattle.std.specs.Prelude.{◌==◌, ◌&&◌, nat_lt, slice_get, min}
 use Rattle.std.proofs.lemmas.Bool.{and_from, lt-ltb}
 use Rattle.std.proofs.lemmas.Option.{slice_get_within}
@@ -10,7 +10,6 @@ use Rattle.pf_source.specs.Told.{FilesTold}
 use Rattle.pf_token.specs.declared.cell.Cell.{Cell}
 use Rattle.pf_token.specs.Cells.{are_in, below, cells_from, place_after}
 use Rattle.pf_token.specs.Reading.{weight}
-use Rattle.pf_lexer.specs.declared.fault.LexFault.{LexFault}
 use Rattle.pf_lexer.specs.declared.fault.LexFault.TheVariants as faults
 use Rattle.pf_lexer.specs.declared.reads.ReadFile.{ReadFile}
 use Rattle.pf_lexer.specs.declared.reads.ReadsFault.{ReadsFault}

@@ -1,6 +1,6 @@
 -- What comes of a unit stands in the files that have a number.
-use Rattle.std.proofs.Common.{◌≡◌, ℕ, ◌+◌, ◌<◌, ◌≤◌, Bool, true, false, cond, List, [], ◌∷◌, ◌++◌, Option, Some, None, Result, Ok, Err, length, length-append, refl, ap, sym, ◌∙◌, subst, arith}
-use Rattle.std.specs.Prelude.{◌||◌, not, nat_lt, nat_le, if◌then◌else◌}
+use Rattle.std.proofs.Common.{◌≡◌, ℕ, ◌<◌, ◌≤◌, Bool, true, false, List, ◌∷◌, Option, Some, None, Result, Err, length, refl, ap, subst, arith}
+use Rattle.std.specs.Prelude.{nat_le, if◌then◌else◌}
 use Rattle.std.proofs.lemmas.Bool.{lt-ltb}
 use Rattle.pf_base.specs.declared.fault.Place.{Place}
 use Rattle.pf_source.specs.Disk.{Disk}
@@ -9,19 +9,15 @@ use Rattle.pf_token.specs.declared.token.Cause.{Cause}
 use Rattle.pf_token.specs.declared.token.Cause.TheVariants as causes
 use Rattle.pf_token.specs.declared.token.Lexeme.{Lexeme}
 use Rattle.pf_token.specs.Cells.{are_in}
-use Rattle.pf_token.specs.Macros.{Table}
 use Rattle.pf_token.specs.Pieces.{Next, StaysIn}
-use Rattle.pf_lexer.specs.declared.deed.Deed.{Deed}
 use Rattle.pf_lexer.specs.declared.fault.LexFault.{LexFault}
 use Rattle.pf_lexer.specs.declared.fault.LexFault.TheVariants as faults
-use Rattle.pf_lexer.specs.Calls.{AreIn, IsKnown, StandsIn}
+use Rattle.pf_lexer.specs.Calls.{AreIn, StandsIn}
 use Rattle.pf_lexer.specs.Coming.{LeadsWithin, OpensWithin}
-use Rattle.pf_lexer.specs.Deeds.{Does}
-use Rattle.pf_lexer.specs.Going.{DeedStaysIn}
 use Rattle.pf_lexer.specs.ReadSoFar.{ReadSoFar}
 use Rattle.pf_lexer.specs.Reads.{Look, absent, given, look_of, look_up, number_of, read_limit, too_large, with_name}
 use Rattle.pf_lexer.specs.Stages.{Standing, Stage, going, failed}
-use Rattle.pf_lexer.specs.Units.{Answer, Answers, GoesTo, Leads, Opens, Passes, answered, further, here, large, lexical, opened, unread}
+use Rattle.pf_lexer.specs.Units.{Answer, Answers, GoesTo, Leads, Opens, Passes, further, here, large, lexical, opened, unread}
 use Rattle.pf_lexer.proofs.Numbers.{names_more, number_within}
 use Rattle.pf_lexer.proofs.OpeningLemmas.{cells_in}
 use Rattle.pf_lexer.proofs.PlaceLemmas.{does_in}

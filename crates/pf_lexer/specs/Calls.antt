@@ -1,13 +1,11 @@
 -- What a call of a lexer tells, whatever the files tell.
-use Rattle.std.specs.Prelude.{◌≡◌, ℕ, ◌<◌, ◌≤◌, true, List, [], ◌∷◌, length, Option, Some, None, Result, Ok, Err, ◌⊎◌}
-use Rattle.pf_base.specs.declared.fault.Place.{Place}
+use Rattle.std.specs.Prelude.{◌≡◌, ℕ, ◌<◌, ◌≤◌, true, List, [], ◌∷◌, Option, Some, None, Result, Ok, Err, ◌⊎◌}
 use Rattle.pf_source.specs.Asks.{Asks}
 use Rattle.pf_source.specs.Disk.{AreAbsent, Disk}
 use Rattle.pf_source.specs.Told.{FilesTold}
 use Rattle.pf_token.specs.declared.cell.Cell.{Cell}
 use Rattle.pf_token.specs.declared.token.Token.{Token}
 use Rattle.pf_token.specs.Cells.{are_in}
-use Rattle.pf_lexer.specs.declared.deed.Statement.{Statement}
 use Rattle.pf_lexer.specs.declared.fault.LexFault.{LexFault}
 use Rattle.pf_lexer.specs.declared.fault.LexFault.TheVariants as faults
 use Rattle.pf_lexer.specs.ReadSoFar.{ReadSoFar}

@@ -13,7 +13,7 @@ use Rattle.pf_lexer.specs.Calls.{AnswersNumbered, IsGoing, IsKnown, IsNumbered, 
 use Rattle.pf_lexer.specs.ReadSoFar.{ReadSoFar}
 use Rattle.pf_lexer.specs.Stages.{Standing, Stage, going}
 use Rattle.pf_lexer.specs.Statements.{IsStatement}
-use Rattle.pf_lexer.specs.Units.{Answer, Leads, Opens, UnitOf}
+use Rattle.pf_lexer.specs.Units.{Answer, Leads, UnitOf}
 
 -- Cells have a statement at their front.
 pub record HasStatement (values : List ℕ → Option (List ℕ)) (cells : List Cell) : Type 0 where
@@ -21,13 +21,6 @@ pub record HasStatement (values : List ℕ → Option (List ℕ)) (cells : List 
   pub close : Close
   pub after : List Cell
   pub is : IsStatement values cells lexemes close after
-
--- A file is read over a disk: it can be, or it isn't there, or it is too large.
-pub record IsRead (disk : Disk) (name : List ℕ) (reads : ReadSoFar) : Type 0 where
-  pub result : Result (List Cell) LexFault
-  pub later : ReadSoFar
-  pub opens : Opens disk name reads result later
-  pub is_true : AreAbsent disk (unread_in result)
 
 -- Something comes next of a unit over a disk, where a file that can't be read isn't there.
 pub record HasLead (disk : Disk) (unit : Standing) (reads : ReadSoFar) : Type 0 where

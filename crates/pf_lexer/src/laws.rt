@@ -5,7 +5,7 @@ ghost use Rattle.pf_token.specs.declared.cell.Cell.{Cell};
 ghost use Rattle.pf_lexer.specs.declared.fault.LexFault.{LexFault};
 ghost use Rattle.pf_token.specs.Macros.{Table};
 ghost use Rattle.pf_lexer.specs.Calls.{StandsIn, unread_in};
-ghost use Rattle.pf_lexer.specs.Coming.{HasLead, HasStatement, HasStatements, IsRead, LeadsWithin, OpensWithin};
+ghost use Rattle.pf_lexer.specs.Coming.{HasLead, HasStatement, HasStatements, LeadsWithin, OpensWithin};
 ghost use Rattle.pf_lexer.specs.Outages.{LeadsWithout, OpensWithout};
 ghost use Rattle.pf_lexer.specs.ReadSoFar.{ReadSoFar};
 ghost use Rattle.pf_lexer.specs.Stages.{Stage, Standing, going};
@@ -39,11 +39,6 @@ pub fn opening_without()
 pub fn lead_without()
     ensures { (disk : Disk) (gone : List ℕ) (stage next : Stage) (reads later : ReadSoFar) (answer : Answer) →
         Leads disk stage reads answer next later → LeadsWithout disk gone stage reads answer next later }
-{}
-
-/// A file is read over a disk, or it isn't there, or it is too large.
-pub fn a_file_is_read()
-    ensures { (disk : Disk) (name : List ℕ) (reads : ReadSoFar) → IsRead disk name reads }
 {}
 
 /// What comes of reading a file stands in the files that have a number.

@@ -24,7 +24,7 @@ use Rattle.pf_load.specs.Load.{HasOutcome, Loads, LoadsOn, Outcome, begun, behin
 use Rattle.pf_load.specs.declared.line.Said.{Said}
 use Rattle.pf_load.specs.declared.line.Said.TheVariants as says
 use Rattle.pf_load.specs.declared.loading.LoadFault.{LoadFault}
-use Rattle.pf_load.specs.declared.loading.LoadFault.TheVariants.{File}
+use Rattle.pf_load.specs.declared.loading.LoadFault.TheVariants.{File, NoMemory}
 use Rattle.pf_rule.specs.declared.rule.Rule.{Rule}
 use Rattle.pf_load.proofs.Following.{faulty_numbered}
 
@@ -90,11 +90,16 @@ module _ (lead_within : LeadWithin) (disk : Disk) where
       let within = going_within stage next reads later (Ok (Some statement)) lead goes known in
       by_said stage next reads later statement lead within.numbered (loads_on rest honest within.goes within.known) (said statement) refl
 
+  -- What a load comes to.
+  record Found (defines : List Define) (file : List ℕ) : Type 0 where
+    outcome : Outcome
+    loads : Loads disk defines file outcome
+
   module _ (open_within : OpenWithin) (defines : List Define) (file : List ℕ) where
     result_fault : (fault : LexFault) → fault ≡ lexical.NoMemory → ◌≡◌ {A = Result (List Cell) LexFault} (Err fault) (Err lexical.NoMemory)
     result_fault fault is = ap (λ (f : LexFault). Err f) is
 
-    by_unit : {statements : List Statement} {fault : Option LexFault} {latest : ReadSoFar} → UnitOf disk (values_of defines) file nothing_read statements fault latest → IsTrueTo disk fault → HasOutcome disk defines file
+    by_unit : {statements : List Statement} {fault : Option LexFault} {latest : ReadSoFar} → UnitOf disk (values_of defines) file nothing_read statements fault latest → IsTrueTo disk fault → Found defines file
     by_unit (UnitOf.begun {later = later} {stage = stage} begins handed) honest =
         let within = open_within disk file nothing_read later (Ok begins.cells) begins.opens in
         let known : IsKnown (length later.names) stage = subst (IsKnown (length later.names)) (sym begins.starts) (record { top = within.within; below = tt }) in
@@ -106,8 +111,10 @@ module _ (lead_within : LeadWithin) (disk : Disk) where
         let told = told_of later.names fault within.within (λ is. within.enough (result_fault fault is)) in
         record { outcome = Err told.fault; loads = unopened opens honest told.is }
 
--- a load comes to something
-pub has_outcome : LeadWithin → OpenWithin → ((disk : Disk) (macros : Table) (name : List ℕ) (reads : ReadSoFar) → HasStatements disk macros name reads) → (disk : Disk) (defines : List Define) (file : List ℕ) → HasOutcome disk defines file
-has_outcome lead_within open_within has disk defines file =
+-- a load comes to something, which is no want of memory
+pub has_outcome : LeadWithin → OpenWithin → ((disk : Disk) (macros : Table) (name : List ℕ) (reads : ReadSoFar) → HasStatements disk macros name reads)
+    → ((disk : Disk) (defines : List Define) (file : List ℕ) → Loads disk defines file (Err NoMemory) → ⊥) → (disk : Disk) (defines : List Define) (file : List ℕ) → HasOutcome disk defines file
+has_outcome lead_within open_within has none disk defines file =
     let unit = has disk (values_of defines) file nothing_read in
-    by_unit lead_within disk open_within defines file unit.unit unit.is_true
+    let found = by_unit lead_within disk open_within defines file unit.unit unit.is_true in
+    record { outcome = found.outcome; loads = found.loads; enough = λ is. none disk defines file (subst (λ (o : Outcome). Loads disk defines file o) is found.loads) }

@@ -8,7 +8,7 @@ use Rattle.pf_source.specs.Disk.{AreAbsent, Disk, without}
 use Rattle.pf_token.specs.Macros.{values_of}
 use Rattle.pf_token.specs.declared.cell.Cell.{Cell}
 use Rattle.pf_token.specs.declared.macros.Define.{Define}
-use Rattle.pf_lexer.specs.Calls.{IsTrueTo, unread_in}
+use Rattle.pf_lexer.specs.Calls.{unread_by, unread_in}
 use Rattle.pf_lexer.specs.ReadSoFar.{ReadSoFar}
 use Rattle.pf_lexer.specs.Stages.{Stage}
 use Rattle.pf_lexer.specs.Units.{Answer, Leads, Opens, start_in}
@@ -74,15 +74,12 @@ abbrev pub behind : List Rule → Outcome → Outcome
 behind rules (Ok more) = Ok (rules ++ more)
 behind rules (Err fault) = Err fault
 
--- a file that can't be read isn't on the disk
-abbrev pub IsTrue : Disk → Answer → Type 0
-IsTrue disk answer = AreAbsent disk (unread_in answer)
-
 -- What the rest of a unit comes to, from where it stands: statement by statement, up to its end or the first fault.
+-- A file that can't be read isn't on the disk.
 pub data LoadsOn (disk : Disk) : Stage → ReadSoFar → Outcome → Type 0 where
   ends : {stage next : Stage} {reads later : ReadSoFar} {answer : Answer} {outcome : Outcome}
       → Leads disk stage reads answer next later
-      → IsTrue disk answer
+      → AreAbsent disk (unread_in answer)
       → end_in later.names answer ≡ Some outcome
       → LoadsOn disk stage reads outcome
   goes_on : {stage next : Stage} {reads later : ReadSoFar} {answer : Answer} {rules : List Rule} {rest : Outcome}
@@ -99,14 +96,15 @@ pub data Loads (disk : Disk) (defines : List Define) (file : List ℕ) : Outcome
       → Loads disk defines file outcome
   unopened : {later : ReadSoFar} {lexical_fault : LexFault} {fault : LoadFault}
       → Opens disk file nothing_read (Err lexical_fault) later
-      → IsTrueTo disk (Some lexical_fault)
+      → AreAbsent disk (unread_by lexical_fault)
       → fault_of later.names lexical_fault ≡ Some fault
       → Loads disk defines file (Err fault)
 
--- A load comes to something.
+-- A load comes to something, and that is no want of memory.
 pub record HasOutcome (disk : Disk) (defines : List Define) (file : List ℕ) : Type 0 where
   pub outcome : Outcome
   pub loads : Loads disk defines file outcome
+  pub enough : outcome ≡ Err NoMemory → ⊥
 
 -- What a call may answer, by what comes over a disk. A file that can't be read is as if absent, and that for the whole
 -- call: where a file is read twice and its second read fails, the answer is what comes over the disk without it, which is

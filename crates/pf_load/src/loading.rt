@@ -156,13 +156,14 @@ pub fn a_load_comes_to_one_thing()
     opening_is_one();
 }
 
-/// A law: over each disk a load comes to something.
+/// A law: over each disk a load comes to something, which is no want of memory.
 pub fn a_load_comes_to_something()
     ensures { (disk : Disk) (defines : List Macro) (file : List ℕ) → HasOutcome disk defines file }
 {
     a_unit_has_statements();
     lead_stays_within();
     opening_stays_within();
+    no_load_comes_to_want_of_memory();
 }
 
 /// A law: a file that is absent is no outage. Over a disk without it a load comes to the same.

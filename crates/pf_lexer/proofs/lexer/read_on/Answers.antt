@@ -1,6 +1,6 @@
 -- One statement more, the end, or a fault.
-use Rattle.std.proofs.Common.{◌≡◌, List, [], ◌∷◌, ◌++◌, Option, Some, None, Ok, Err, sym, ap, ◌∙◌, subst, append-nil, append_assoc, arith}
-use Rattle.pf_source.specs.Told.{Held, FilesTold, file_of}
+use Rattle.std.proofs.Common.{◌≡◌, List, [], ◌∷◌, ◌++◌, Some, None, Err, sym, ap, ◌∙◌, subst, append-nil, append_assoc}
+use Rattle.pf_source.specs.Told.{file_of}
 use Rattle.pf_lexer.specs.declared.deed.Statement.{Statement}
 use Rattle.pf_lexer.specs.declared.fault.LexFault.{LexFault}
 use Rattle.pf_lexer.specs.Calls.{LacksMemoryIn}

@@ -1,7 +1,6 @@
 -- The first file is read and its statements follow, or it isn't.
-use Rattle.std.proofs.Common.{◌≡◌, List, [], Option, Some, None, Ok, Err, sym, ap, ◌∙◌, subst}
+use Rattle.std.proofs.Common.{◌≡◌, [], Some, Err, sym, ◌∙◌, subst}
 use Rattle.pf_source.specs.Told.{file_of}
-use Rattle.pf_lexer.specs.declared.deed.Statement.{Statement}
 use Rattle.pf_lexer.specs.declared.fault.LexFault.{LexFault}
 use Rattle.pf_lexer.specs.Units.{Opens, UnitOf}
 use Rattle.pf_lexer.proofs.OneUnit.{unit_one}

@@ -1,5 +1,5 @@
 -- The unit goes on, or its fault comes again.
-use Rattle.std.proofs.Common.{◌≡◌, Option, Some, Err, length, ap, sym, ◌∙◌, subst, arith}
+use Rattle.std.proofs.Common.{Option, Err, length, ap, sym, ◌∙◌, subst, arith}
 use Rattle.pf_source.specs.Told.{file_of}
 use Rattle.pf_lexer.specs.declared.fault.LexFault.{LexFault}
 use Rattle.pf_lexer.specs.Calls.{IsKnown}
