@@ -1,8 +1,9 @@
 -- Rules that are equal in a skip field.
-use Rattle.std.proofs.Common.{◌≡◌, ℕ, zero, suc, ◌+◌, ◌≤◌, Bool, true, false, not, ◌&&◌, Option, Some, None, unwrap_or, List, [], ◌∷◌, slice_get, refl, ap, sym, ◌∙◌, arith, zero-add}
+use Rattle.std.proofs.Common.{◌≡◌, ℕ, zero, suc, ◌+◌, ◌≤◌, Bool, true, false, not, ◌&&◌, Some, unwrap_or, List, [], ◌∷◌, slice_get, refl, ap, sym, ◌∙◌, arith, zero-add}
 use Rattle.std.specs.List.{position_from}
+use Rattle.pf_addr.specs.Addr.{is_of_family}
 use Rattle.pf_rule.specs.Around.{Around}
-use Rattle.pf_rule.specs.Criteria.{address_holds, if_given, is_of_family, number_holds, on_interface, same_direction, same_number}
+use Rattle.pf_rule.specs.Criteria.{address_holds, if_given, number_holds, on_interface, same_direction, same_number}
 use Rattle.pf_rule.specs.Fields.{AgreeIn}
 use Rattle.pf_rule.specs.Hit.{all_hold, failing_field, fails_at, hits, hits_at, other_tests, skip_tests}
 use Rattle.pf_rule.specs.declared.criteria.Criteria.{Criteria}

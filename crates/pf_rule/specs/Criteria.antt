@@ -2,12 +2,10 @@
 -- tag that the packet has at the moment, and what stands around the rules, and nothing else.
 use Rattle.std.specs.Prelude.{ℕ, List, Bool, true, false, not, ◌&&◌, ◌||◌, ◌==◌, Option, Some, None, bit_and, if◌then◌else◌}
 use Rattle.std.specs.Str.{bytes_eq}
+use Rattle.pf_addr.specs.Addr.{is_of_family}
 use Rattle.pf_addr.specs.Prefix as prefixes
 use Rattle.pf_addr.specs.Range as ranges
 use Rattle.pf_addr.specs.declared.addr.Addr.{Addr}
-use Rattle.pf_addr.specs.declared.addr.Addr.TheVariants.{V4, V6}
-use Rattle.pf_base.specs.declared.kind.Family.{Family}
-use Rattle.pf_base.specs.declared.kind.Family.TheVariants.{Inet, Inet6}
 use Rattle.pf_ops.specs.Numbers.{in_numbers}
 use Rattle.pf_ops.specs.declared.flags.IcmpType.{IcmpType}
 use Rattle.pf_ops.specs.declared.numbers.Numbers.{Numbers}
@@ -77,12 +75,6 @@ abbrev pub direction_holds : Criteria → Packet → Bool
 direction_holds criteria packet = if_given criteria.direction (λ direction. same_direction direction packet.direction)
 
 -- `inet` and `inet6`: the packet is of this family, which is that of its source
-abbrev pub is_of_family : Family → Addr → Bool
-is_of_family Inet (V4 n) = true
-is_of_family Inet (V6 n) = false
-is_of_family Inet6 (V4 n) = false
-is_of_family Inet6 (V6 n) = true
-
 abbrev pub family_holds : Criteria → Packet → Bool
 family_holds criteria packet = if_given criteria.family (λ family. is_of_family family packet.source)
 

@@ -1,5 +1,5 @@
 -- The rule that decides, in the words of pf.conf(5): the last pass or block rule that matches.
--- A rule is tested with the tag that the packet has when the rule is reached.
+-- A rule is tested with the packet, as match rules have translated it, and the tag that it has when the rule is reached.
 use Rattle.std.specs.Prelude.{◌≡◌, List, ◌∷◌, ◌++◌, false, IsTrue}
 use Rattle.pf_rule.specs.Around.{Around}
 use Rattle.pf_rule.specs.Effect.{is_deciding}

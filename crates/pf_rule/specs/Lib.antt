@@ -3,6 +3,8 @@ pub mod Around
 pub mod Criteria
 pub mod Deciding
 pub mod Effect
+pub mod Equal
+pub mod FieldHash
 pub mod Fields
 pub mod Hit
 pub mod Laying

@@ -1,23 +1,16 @@
 //! The tests of single criteria.
 ghost use Rattle.std.specs.Prelude.{◌≡◌};
 ghost use Rattle.pf_rule.specs.Around.{around_by};
-ghost use Rattle.pf_rule.specs.Criteria.{address_holds, direction_holds, family_holds, flags_hold, icmp_holds, in_set, is_of_family, is_tag, is_tcp_or_udp, number_holds, on_interface, same_code, same_number, same_type, tag_passes};
+ghost use Rattle.pf_rule.specs.Criteria.{address_holds, direction_holds, family_holds, flags_hold, icmp_holds, in_set, is_tag, is_tcp_or_udp, number_holds, on_interface, same_code, same_number, same_type, tag_passes};
 
 use crate::criteria::{AddrSet, AddrTest, Criteria};
 use crate::members::Members;
 use crate::packet::Packet;
+use crate::protocol::{ICMP, ICMP6, TCP, UDP};
 use pf_addr::{Addr, Ifaces};
-use pf_base::{Family, Name};
+use pf_base::Name;
 use pf_ops::{IcmpType, Op16, Op32};
 use pf_parts::{IfTest, TagTest};
-
-const TCP: u8 = 6;
-
-const UDP: u8 = 17;
-
-const ICMP: u8 = 1;
-
-const ICMP6: u8 = 58;
 
 pub(crate) fn interface_holds<I: Ifaces>(test: &IfTest, iface: &Name, ifaces: &I) -> bool
     ensures { result ≡ on_interface (I.in_group ifaces.now) test.now iface.now }
@@ -42,16 +35,7 @@ pub(crate) fn family_holds(criteria: &Criteria, packet: &Packet) -> bool
 {
     match criteria.family {
         None => true,
-        Some(family) => is_of_family(family, &packet.source),
-    }
-}
-
-fn is_of_family(family: Family, addr: &Addr) -> bool
-    ensures { result ≡ is_of_family family addr.now }
-{
-    match (family, addr) {
-        (Family::Inet, Addr::V4(_)) | (Family::Inet6, Addr::V6(_)) => true,
-        (Family::Inet, Addr::V6(_)) | (Family::Inet6, Addr::V4(_)) => false,
+        Some(family) => packet.source.is_of(family),
     }
 }
 

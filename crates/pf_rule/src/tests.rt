@@ -1,7 +1,11 @@
+ghost use Rattle.std.specs.Prelude.{◌<◌};
+
 use crate::*;
 use pf_addr::{Addr, DynIf, Ifaces, Prefix, Range, parse_addr, parse_prefix};
-use pf_base::{Family, Name, Steps, Uncounted};
+use pf_base::{Family, Name, Path, Same, Steps, Uncounted};
 use pf_ops::{IcmpType, Op16, Op32, OpKind, TcpFlags};
+use std::alloc::Global;
+use std::collections::HashMap;
 use std::test::Fail;
 
 // A host whose interfaces are all in one group and have the addresses of one network.
@@ -648,8 +652,8 @@ fn target(addr_text: &str, port: Option<u16>) -> Result<Option<Target>, Fail> {
     }))
 }
 
-// What the rules with these translations of the source make of the source and target of a packet.
-fn translated(packet: &Packet, nat: &[Option<Target>]) -> Result<Walk, Fail> {
+// A packet behind match rules with these translations of the source, and the one that is answered.
+fn translated(packet: &Packet, nat: &[Option<Target>]) -> Result<(Packet, Option<Target>), Fail> {
     let mut walk = Walk::begin(packet);
     for new in nat {
         let mut effect = MATCH;
@@ -660,34 +664,37 @@ fn translated(packet: &Packet, nat: &[Option<Target>]) -> Result<Walk, Fail> {
         };
         probed(&mut walk, &rule)?;
     }
-    Ok(walk)
+    Ok((walk.packet, answer(&walk).decision.params.nat))
 }
 
 #[test]
 fn match_rules_translate(rt: HostRuntime) -> Result<(), Fail> {
     let ported = target("192.0.2.10", Some(5000))?;
     let plain = target("192.0.2.11", None)?;
-    let other_family = target("2001:db8::1", Some(5000))?;
-    for (proto, nat, source, port) in [
-        (6, [ported, None], "192.0.2.10", 5000),
-        (17, [ported, plain], "192.0.2.11", 5000),
-        (6, [plain, None], "192.0.2.11", 1024),
-        (1, [ported, None], "192.0.2.10", 1024),
-        (6, [other_family, None], "10.0.0.1", 1024),
+    let joined = target("192.0.2.11", Some(5000))?;
+    let inet6 = target("2001:db8::1", Some(5000))?;
+    for (proto, nat, source, port, answered) in [
+        (6, [ported, None], "192.0.2.10", 5000, ported),
+        (17, [ported, plain], "192.0.2.11", 5000, joined),
+        (6, [plain, None], "192.0.2.11", 1024, plain),
+        (1, [ported, None], "192.0.2.10", 1024, ported),
+        (6, [inet6, None], "10.0.0.1", 1024, inet6),
     ] {
         let packet = Packet {
             proto,
             ..syn("10.0.0.1", "198.51.100.7", 80)?
         };
-        let walk = translated(&packet, &nat)?;
-        let want = addr(source)?;
-        assert_eq!(rt; walk.packet.source, want, "{proto} {nat:?}");
-        assert_eq!(rt; walk.packet.source_port, Some(port), "{proto} {nat:?}");
-        assert_eq!(rt; walk.packet.target, packet.target, "{proto} {nat:?}");
-        assert_eq!(rt; walk.packet.target_port, Some(80), "{proto} {nat:?}");
+        let want = Packet {
+            source: addr(source)?,
+            source_port: Some(port),
+            ..packet
+        };
+        assert_eq!(rt;
+            translated(&packet, &nat)?,
+            (want, answered),
+            "{proto} {nat:?}"
+        );
     }
-    let walk = translated(&syn("10.0.0.1", "198.51.100.7", 80)?, &[ported, plain])?;
-    assert_eq!(rt; answer(&walk).decision.params.nat, target("192.0.2.11", Some(5000))?);
     Ok(())
 }
 
@@ -835,6 +842,48 @@ fn skip_fields_have_values(rt: HostRuntime) -> Result<(), Fail> {
             _ => false,
         };
         assert_eq!(rt; given, field == 3 || field == 7, "{field}");
+    }
+    Ok(())
+}
+
+#[test]
+fn rules_are_one_where_all_is_equal(rt: HostRuntime) -> Result<(), Fail> {
+    let rules = default_rules()?;
+    for (i, one) in rules.iter().enumerate() {
+        for (j, other) in rules.iter().enumerate() {
+            assert_eq!(rt; one.is_one_with(other), i == j, "{i} {j}");
+        }
+    }
+    let mut effect = PASS;
+    effect.params.log.to = Some(name("pflog1")?);
+    assert!(rt; !effect.is_one_with(&PASS));
+    let call = Call {
+        base: Base::Below,
+        path: Path::main(),
+        children: false,
+    };
+    let anchor = Action::Anchor(call);
+    assert!(rt; anchor.is_one_with(&anchor));
+    assert!(rt; !anchor.is_one_with(&Action::Match));
+    Ok(())
+}
+
+// How many distinct values of a skip field the default rules have.
+fn distinct(alloc: Global, field: u8) -> Result<usize, Fail>
+    requires { field < 8 }
+{
+    let rules = default_rules()?;
+    let mut seen = HashMap::new(alloc);
+    for rule in &rules {
+        seen.insert(rule.criteria.field_value(field), field)?;
+    }
+    Ok(seen.len())
+}
+
+#[test]
+fn equal_values_are_found_in_a_map(rt: HostRuntime) -> Result<(), Fail> {
+    for (field, count) in [(0, 2), (1, 3), (2, 1), (3, 2), (4, 1), (7, 2)] {
+        assert_eq!(rt; distinct(rt.alloc(), field)?, count, "{field}");
     }
     Ok(())
 }

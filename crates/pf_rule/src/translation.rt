@@ -18,10 +18,7 @@ impl Target {
     fn suits(&self, packet: &Packet) -> bool
         ensures { result ≡ suits self.now packet.now }
     {
-        match (&self.addr, &packet.source) {
-            (Addr::V4(_), Addr::V4(_)) | (Addr::V6(_), Addr::V6(_)) => true,
-            (Addr::V4(_), Addr::V6(_)) | (Addr::V6(_), Addr::V4(_)) => false,
-        }
+        self.addr.same_family(&packet.source)
     }
 
     // The port that the packet has in place of this one.

@@ -11,6 +11,7 @@ use pf_parts::{StateKind, StateOptions};
 /// A packet on its way through the rules.
 #[derive(Clone, Copy, Debug, PartialEq, Eq)]
 pub struct Walk {
+    /// As `match` rules have translated it so far.
     pub packet: Packet,
     /// The tag that it has at the moment.
     pub tag: Option<Name>,
