@@ -15,7 +15,8 @@ use Rattle.pf_record.specs.declared.field.PacketFault.{PacketFault}
 use Rattle.pf_record.specs.Keys.{keys_fault}
 use Rattle.pf_record.specs.Reading.{AreCut, AreRead, end_fault, lacks, list_of, values_fault, sport_read, dport_read, flags_read, icmptype_read, code_read, tos_read, prio_read, user_read, group_read, tag_read}
 use Rattle.pf_record.specs.Record.{AreAllowed, AreSaid, IsFaulty, IsReadAs, IsRecord, Values, Writes, fault_of, perhaps}
-use Rattle.pf_record.specs.Words.{direction_of, flags_of, has_ports, has_types, is_tcp, proto_of}
+use Rattle.pf_ops.specs.Words.{flags_of, proto_of}
+use Rattle.pf_record.specs.Words.{direction_of, has_ports, has_types, is_tcp}
 use Rattle.pf_record.proofs.FaultLemmas.{keys_fault-values}
 use Rattle.pf_record.proofs.GivenLemmas.{AreCut-key_words}
 use Rattle.pf_record.proofs.SaidLemmas.{Says-value_read, has-value_read, given-value_read, value_read-Says, lacks-given, both_none}
