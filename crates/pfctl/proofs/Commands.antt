@@ -9,8 +9,18 @@ use Rattle.pf_token.specs.declared.macros.Define.{Define}
 use Rattle.pf_base.specs.Text.{is_blank, is_nothing, words_of}
 use Rattle.pf_base.proofs.Cuts.{split_at_first}
 use Rattle.pf_base.proofs.Words.{one_word, empty_has_none}
-use Rattle.pfctl.specs.Command.{Command, Load, None_of_these, begins_with_dash, behind_blanks, command_of, command_with, define_of, is_plain, load_of, load_with, load_with_one, with_define}
+use Rattle.pfctl.specs.Command.{Command, Load, None_of_these, begins_with_dash, behind_blanks, command_of, define_of, is_plain, load_of, load_with, with_define}
 use Rattle.pfctl.specs.Program.{is_file_word, is_visible, is_word, load_line}
+
+-- a load of this file with one definition, where there is one
+abbrev pub load_with_one : Option Define → List ℕ → Command
+load_with_one None file = None_of_these
+load_with_one (Some define) file = Load (define ∷ []) file
+
+-- a load of this file, with the definition of this word where one is given
+abbrev pub command_with : Option (List ℕ) → List ℕ → Command
+command_with None file = Load [] file
+command_with (Some word) file = load_with_one (define_of word) file
 
 -- a visible byte is plain and no blank
 visible_is_plain : (byte : ℕ) → is_visible byte ≡ true → is_plain byte ≡ true

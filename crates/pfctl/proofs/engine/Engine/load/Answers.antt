@@ -3,9 +3,9 @@ use Rattle.std.proofs.lemmas.Result.{IfOk-weaker}
 use Rattle.std.specs.Option.{option_copied}
 use Rattle.pf_token.specs.declared.macros.Define.{Define}
 use Rattle.pf_source.specs.Told.{file_of}
-use Rattle.pfctl.specs.Command.{Load, None_of_these, command_of, command_with, load_with_one}
+use Rattle.pfctl.specs.Command.{Load, None_of_these, command_of}
 use Rattle.pfctl.specs.Program.{load_line}
-use Rattle.pfctl.proofs.Commands.{load_command}
+use Rattle.pfctl.proofs.Commands.{command_with, load_command, load_with_one}
 use Rattle.pfctl.proofs.Sessions.{alone_answers}
 use Rattle.pfctl.proofs.Steps.{refused_alone}
 use Rattle.pfctl.proofs.engine.Engine.load.Goals as goal
