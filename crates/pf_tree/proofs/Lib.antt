@@ -1,0 +1,7 @@
+pub mod Bare
+pub mod ChildFits
+pub mod Children
+pub mod Fits
+pub mod Loops
+pub mod Nodes
+pub mod Rewritten
