@@ -31,11 +31,10 @@ fewer_bits y z low high le same =
     subst (λ (k : ℕ). y / 2 ^ k ≡ z / 2 ^ k) sum step
 
 -- the last number with the same bits before the last k
-last_with : ℕ → ℕ → ℕ
+abbrev pub last_with : ℕ → ℕ → ℕ
 last_with y k = y + (2 ^ k - 1)
 
-last_below : (y k w : ℕ) → k ≤ w → y % 2 ^ k ≡ 0 → y < 2 ^ w → last_with y k < 2 ^ w
-unfolding last_with
+pub last_below : (y k w : ℕ) → k ≤ w → y % 2 ^ k ≡ 0 → y < 2 ^ w → last_with y k < 2 ^ w
 last_below y k w le zero_bits lt =
     let split = shr_split y k in
     let sum : (w - k) + k ≡ w = omega arith in
@@ -46,7 +45,6 @@ last_below y k w le zero_bits lt =
     omega arith
 
 last_same : (y k : ℕ) → y % 2 ^ k ≡ 0 → last_with y k / 2 ^ k ≡ y / 2 ^ k
-unfolding last_with
 last_same y k zero_bits =
     let split = shr_split y k in
     let pos = pow_pos k in
@@ -55,7 +53,6 @@ last_same y k zero_bits =
 
 -- with fewer bits cut off, the two differ
 last_differs : (y k j : ℕ) → j < k → last_with y k / 2 ^ j ≡ y / 2 ^ j → 0 < 0
-unfolding last_with
 last_differs y k j lt same =
     let a = shr_split y j in
     let b = shr_split (y + (2 ^ k - 1)) j in

@@ -1,5 +1,6 @@
 pub mod Cover
 pub mod Network
+pub mod Stretches
 pub mod Values
 pub mod Texts
 pub mod Short

@@ -1,12 +1,23 @@
 -- What an address is: a family and a number of as many bits as the family has.
 use Rattle.std.specs.Prelude.{◌≡◌, ℕ, ◌-◌, ◌*◌, ◌/◌, ◌^◌, ◌<◌, Bool, ◌==◌}
+use Rattle.pf_base.specs.declared.kind.Family.{Family}
+use Rattle.pf_base.specs.declared.kind.Family.TheVariants.{Inet, Inet6}
 use Rattle.pf_addr.specs.declared.addr.Addr.{Addr}
 use Rattle.pf_addr.specs.declared.addr.Addr.TheVariants.{V4, V6}
 
--- how many bits an address of this family has
+-- the family of an address (pf.conf(5), PARAMETERS, inet and inet6)
+abbrev pub family_of : Addr → Family
+family_of (V4 n) = Inet
+family_of (V6 n) = Inet6
+
+-- how many bits an address of a family has
+abbrev pub bits_of : Family → ℕ
+bits_of Inet = 32
+bits_of Inet6 = 128
+
+-- how many bits this address has
 abbrev pub width : Addr → ℕ
-width (V4 n) = 32
-width (V6 n) = 128
+width a = bits_of (family_of a)
 
 -- the address as a number, its first byte the highest
 abbrev pub number : Addr → ℕ
@@ -17,13 +28,17 @@ number (V6 n) = n
 abbrev pub IsAddr : Addr → Type 0
 IsAddr a = number a < 2 ^ width a
 
--- the two are of one family
+-- the two are of one family, which their bits tell
 abbrev pub SameFamily : Addr → Addr → Type 0
 SameFamily a b = width a ≡ width b
 
 -- the test of that
 abbrev pub same_family : Addr → Addr → Bool
 same_family a b = width a == width b
+
+-- the address is of this family
+abbrev pub is_of_family : Family → Addr → Bool
+is_of_family family a = bits_of family == width a
 
 -- the first len bits, as a number
 abbrev pub leading : Addr → ℕ → ℕ

@@ -1,6 +1,10 @@
 pub mod Addr
 pub mod Prefix
 pub mod Range
+pub mod Stretch
+pub mod AddrOrder
+pub mod PrefixOrder
+pub mod RangeOrder
 pub mod Grammar
 pub mod Text
 pub mod PrefixText

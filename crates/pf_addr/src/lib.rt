@@ -11,13 +11,15 @@ pub mod parse;
 pub mod prefix;
 pub mod print;
 pub mod range;
+pub mod stretch;
 
 pub use addr::Addr;
 pub use ifaces::{DynIf, Ifaces};
 pub use parse::{AddrFault, parse_addr, parse_prefix};
 pub use prefix::Prefix;
 pub use print::{put_addr, put_prefix};
-pub use range::Range;
+pub use range::{Range, RangeFault};
+pub use stretch::Stretch;
 
 #[cfg(test)]
 mod tests;
