@@ -4,8 +4,8 @@ use Rattle.std.proofs.lemmas.Bool.{and_parts, and_from, eqb-true, le-leb, leb-tr
 use Rattle.pf_addr.specs.declared.addr.Addr.{Addr}
 use Rattle.pf_addr.specs.declared.prefix.Prefix.{Prefix}
 use Rattle.pf_addr.specs.Addr.{width, number, leading, IsAddr}
-use Rattle.pf_addr.specs.Prefix.{contains, covers}
-use Rattle.pf_table.specs.Bits.{side, host, Covers, Above}
+use Rattle.pf_addr.specs.Prefix.{contains, covers, whole}
+use Rattle.pf_table.specs.Bits.{side, Covers, Above}
 use Rattle.pf_table.proofs.Leading.{leading-fewer, side-same, prefix-same}
 
 pub covers-itself : (p : Prefix) → Covers p p
@@ -36,13 +36,13 @@ covers-same p q h l = prefix-same p q h.family l h.bits
 pub covers-side : (p q : Prefix) (k : ℕ) → Covers p q → k < p.len → side p.addr k ≡ side q.addr k
 covers-side p q k h lt = side-same p.addr q.addr k p.len h.family lt h.bits
 
-pub contains-covers : (p : Prefix) (a : Addr) → IsTrue (contains p a) → Covers p (host a)
+pub contains-covers : (p : Prefix) (a : Addr) → IsTrue (contains p a) → Covers p (whole a)
 contains-covers p a h =
     let parts = and_parts _ _ h in
     let same = eqb-true _ _ parts.0 in
     record { family = same; short = subst (λ (t : ℕ). p.len ≤ t) same p.fits; bits = eqb-true _ _ parts.1 }
 
-pub covers-contains : (p : Prefix) (a : Addr) → Covers p (host a) → IsTrue (contains p a)
+pub covers-contains : (p : Prefix) (a : Addr) → Covers p (whole a) → IsTrue (contains p a)
 covers-contains p a h = and_from _ _ (eq-eqb _ _ h.family) (eq-eqb _ _ h.bits)
 
 pub true-covers : (p q : Prefix) → IsTrue (covers p q) → Covers p q

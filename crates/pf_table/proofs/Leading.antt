@@ -2,12 +2,12 @@
 use Rattle.std.proofs.Common.{◌≡◌, ℕ, ◌+◌, ◌-◌, ◌*◌, ◌/◌, ◌%◌, ◌^◌, ◌<◌, ◌≤◌, Bool, IsTrue, true, false, refl, sym, ap, ◌∙◌, subst, arith, nat_eq, inl, inr}
 use Rattle.std.specs.Prelude.{◌==◌}
 use Rattle.std.proofs.lemmas.Bool.{eqb-true}
-use Rattle.std.proofs.lemmas.Nat.{shr-shr, shr_split}
+use Rattle.std.proofs.lemmas.Nat.{shr-shr, shr_split, shr_high, shr_below, pow_pos}
 use Rattle.std.proofs.lemmas.Bool.Decides.{nat_tests}
 use Rattle.pf_addr.specs.declared.addr.Addr.{Addr}
 use Rattle.pf_addr.specs.declared.addr.Addr.TheVariants.{V4, V6}
 use Rattle.pf_addr.specs.declared.prefix.Prefix.{Prefix}
-use Rattle.pf_addr.specs.Addr.{width, number, leading}
+use Rattle.pf_addr.specs.Addr.{width, number, leading, network, IsAddr}
 use Rattle.pf_addr.proofs.Prefixes.{Prefix-same}
 use Rattle.pf_table.specs.Bits.{side}
 
@@ -69,3 +69,19 @@ prefix-same p q e l same =
     let numbers : number p.addr ≡ number q.addr =
     whole (number p.addr) k x ∙ ap (λ (t : ℕ). t * 2 ^ k) bits ∙ sym (whole (number q.addr) k q.no_host_bits) in
     Prefix-same p q (addr-same p.addr q.addr e numbers) l
+
+cleared-front : (x k : ℕ) → x / 2 ^ k * 2 ^ k / 2 ^ k ≡ x / 2 ^ k
+cleared-front x k = let form : x / 2 ^ k * 2 ^ k ≡ x / 2 ^ k * 2 ^ k + 0 = omega arith in
+    ap (λ (t : ℕ). t / 2 ^ k) form ∙ shr_high (x / 2 ^ k) k 0 (pow_pos k)
+
+-- the first bits stay where the others are cleared
+pub leading-network : (a : Addr) (n : ℕ) → leading (network a n) n ≡ leading a n
+leading-network (V4 x) n = cleared-front x (32 - n)
+leading-network (V6 x) n = cleared-front x (128 - n)
+
+-- no address has a bit before the first
+pub leading-none : (a : Addr) → IsAddr a → leading a 0 ≡ 0
+leading-none a h = shr_none (number a) (width a) h
+  where
+    shr_none : (x w : ℕ) → x < 2 ^ w → x / 2 ^ (w - 0) ≡ 0
+    shr_none x w lt = let same : w - 0 ≡ w = omega arith in let low : x / 2 ^ w < 2 ^ 0 = shr_below x 0 w (subst (λ (t : ℕ). x < 2 ^ t) (let sum : w ≡ 0 + w = omega arith in sum) lt) in rw same (omega arith)

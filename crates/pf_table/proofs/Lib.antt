@@ -1,2 +1,6 @@
-pub mod Covers
+pub mod Bools
 pub mod Leading
+pub mod Covers
+pub mod Grow
+pub mod Grown
+pub mod Ways

@@ -1,20 +1,12 @@
 -- Prefixes as runs of bits, the first the highest.
-use Rattle.std.specs.Prelude.{◌≡◌, ◌≢◌, ℕ, ◌+◌, ◌-◌, ◌%◌, ◌^◌, ◌<◌, ◌≤◌, Bool, ◌==◌}
-use Rattle.std.proofs.Common.{arith}
+use Rattle.std.specs.Prelude.{◌≡◌, ◌≢◌, ℕ, ◌+◌, ◌%◌, ◌<◌, ◌≤◌, Bool, ◌==◌}
 use Rattle.pf_addr.specs.declared.addr.Addr.{Addr}
 use Rattle.pf_addr.specs.declared.prefix.Prefix.{Prefix}
-use Rattle.pf_addr.specs.Addr.{width, number, leading}
+use Rattle.pf_addr.specs.Addr.{width, leading}
 
 -- whether the bit behind the first place bits is a one
 unfoldable pub side : Addr → ℕ → Bool
 side a place = leading a (place + 1) % 2 == 1
-
-no_bits_left : (x w : ℕ) → x % 2 ^ (w - w) ≡ 0
-no_bits_left x w = let none : w - w ≡ 0 = omega arith in rw none (omega arith)
-
--- the prefix of one address
-abbrev pub host : Addr → Prefix
-host a = record { addr = a; len = width a; fits = let same : width a ≤ width a = omega arith in same; no_host_bits = no_bits_left (number a) (width a) }
 
 -- each address of the second is in the first
 pub record Covers (p q : Prefix) : Type 0 where

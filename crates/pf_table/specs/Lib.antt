@@ -1,5 +1,4 @@
 pub mod Bits
-pub mod Order
 pub mod Node
 pub mod Trie
 pub mod Table

@@ -5,7 +5,7 @@ use Rattle.std.specs.FinMap as finite
 use Rattle.pf_addr.specs.declared.addr.Addr.{Addr}
 use Rattle.pf_addr.specs.declared.prefix.Prefix.{Prefix}
 use Rattle.pf_addr.specs.Prefix.{contains}
-use Rattle.pf_table.specs.Order.{prefix_cmp}
+use Rattle.pf_addr.specs.PrefixOrder.{prefix_cmp}
 use Rattle.pf_table.specs.declared.entry.Entry.{Entry}
 
 -- a table as the finite map from its prefixes to their signs, true for a negated one

@@ -1,7 +1,7 @@
 //! Addresses and prefixes as runs of bits, the first the highest.
-ghost use Rattle.std.specs.Prelude.{◌≡◌, ◌+◌, ◌-◌, ◌/◌, ◌%◌, ◌^◌, ◌<◌, ◌≤◌, ◌==◌};
+ghost use Rattle.std.specs.Prelude.{◌≡◌, ◌+◌, ◌-◌, ◌*◌, ◌/◌, ◌%◌, ◌^◌, ◌<◌, ◌≤◌, ◌==◌};
 ghost use Rattle.pf_addr.specs.Addr.{width, number, leading, network, IsAddr};
-ghost use Rattle.pf_table.specs.Bits.{side, host, IsShared, IsFront};
+ghost use Rattle.pf_table.specs.Bits.{side, IsShared, IsFront};
 
 use pf_addr::{Addr, Prefix};
 
@@ -26,16 +26,6 @@ pub(crate) fn number(addr: &Addr) -> u128
     }
 }
 
-// The prefix of one address.
-pub(crate) fn host(addr: &Addr) -> Prefix
-    ensures { result ≡ host addr.now }
-{
-    Prefix {
-        addr: *addr,
-        len: width(addr),
-    }
-}
-
 // The bit behind the first `place` bits.
 #[tactic(auto, unfolding(crate::specs::Bits::side))]
 pub(crate) fn side(addr: &Addr, place: u8) -> bool
@@ -46,16 +36,26 @@ pub(crate) fn side(addr: &Addr, place: u8) -> bool
     number(addr).checked_shr(u32::from(behind)).unwrap_or(0) % 2 == 1
 }
 
+// The address with all bits but the first `len` as zero.
+fn network(addr: &Addr, len: u8) -> Addr
+    requires { len ≤ width addr.now }
+    ensures { result ≡ network addr.now len }
+{
+    match *addr {
+        Addr::V4(bits) => Addr::V4(cleared(u128::from(bits), 32 - len) as u32),
+        Addr::V6(bits) => Addr::V6(cleared(bits, 128 - len)),
+    }
+}
+
 // The first `len` bits of a prefix as a prefix.
 pub(crate) fn front(prefix: &Prefix, len: u8) -> Prefix
     requires { len ≤ prefix.now.len }
     ensures { IsFront result prefix.now len }
 {
-    let addr = match prefix.addr {
-        Addr::V4(bits) => Addr::V4(cleared(u128::from(bits), 32 - len) as u32),
-        Addr::V6(bits) => Addr::V6(cleared(bits, 128 - len)),
-    };
-    Prefix { addr, len }
+    Prefix {
+        addr: network(&prefix.addr, len),
+        len,
+    }
 }
 
 // The number with its last `count` bits as zero.

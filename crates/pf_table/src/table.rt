@@ -1,5 +1,4 @@
 //! A table.
-use crate::bits::host;
 use crate::entry::Entry;
 use crate::node::Node;
 use crate::trie::{deepest, next, place, root, roots};
@@ -57,7 +56,7 @@ impl Table {
         if self.nodes.is_empty() {
             return false;
         }
-        let key = host(addr);
+        let key = Prefix::of(addr);
         let mut at = root(addr);
         let mut found = self.nodes[at].negated;
         while let Some(below) = next(&self.nodes, at, &key) {
