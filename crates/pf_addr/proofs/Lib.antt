@@ -5,6 +5,8 @@ pub mod Values
 pub mod Texts
 pub mod Short
 pub mod Prefixes
+pub mod Equal
+pub mod OneWord
 pub mod Digits
 pub mod Groups
 pub mod Printed

@@ -67,7 +67,7 @@ before_mask (V4 n) h =
 before_mask (V6 n) h = IsAddrText-addr_text (V6 n) h
 
 -- pf_base's number of a text of digits
-own : IsNumeralModel (λ ds. list_all is_ascii_digit ds ≡ true) (digits_after 0)
+pub own : IsNumeralModel (λ ds. list_all is_ascii_digit ds ≡ true) (digits_after 0)
 own = numerals_by_fold _ (search rules) digits_after (search rules)
 
 nonempty : (text : List ℕ) → 0 < length text → is_nothing text ≡ false

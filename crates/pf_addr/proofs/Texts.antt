@@ -1,8 +1,10 @@
 -- The bytes of addresses, and that a text writes one address and one mask at most.
-use Rattle.std.proofs.Common.{◌==◌, ◌≡◌, ◌≢◌, ℕ, zero, suc, ◌+◌, ◌<◌, ◌≤◌, ◌^◌, Bool, true, false, List, [], ◌∷◌, ◌++◌, length, get_or, decimal, Option, Some, All, refl, sym, ap, subst, ◌∙◌, arith, inl, inr, length-append, append_assoc, lit<}
+use Rattle.std.proofs.Common.{◌==◌, ◌&&◌, nat_le, if◌then◌else◌, ◌≡◌, ◌≢◌, ℕ, zero, suc, ◌+◌, ◌<◌, ◌≤◌, ◌^◌, Bool, true, false, List, [], ◌∷◌, ◌++◌, length, get_or, decimal, Option, Some, None, All, refl, sym, ap, subst, ◌∙◌, arith, inl, inr, length-append, append_assoc, lit<}
 use Rattle.std.proofs.lemmas.List.{take_at, drop_at}
-use Rattle.std.specs.List.{count_by}
-use Rattle.std.specs.Char.{digit_value}
+use Rattle.std.specs.Option.{MatchOption}
+use Rattle.std.specs.Cmp.{first_so, second_so}
+use Rattle.std.specs.List.{count_by, list_all}
+use Rattle.std.specs.Char.{digit_value, is_ascii_digit}
 use Rattle.std.specs.Str.Parse.{AllDigits}
 use Rattle.std.specs.Net.Addr.{segments_of}
 use Rattle.std.specs.Net.Grammar.{IsDotted, IsColonHex, IsGroupsAfter}
@@ -12,11 +14,12 @@ use Rattle.std.proofs.lemmas.Bool.{ne_eqb}
 use Rattle.std.proofs.lemmas.List.Elements.{All-nil, All-cons, All-head, All-tail, All-append, All-same, All-take, All-drop, All-weaker}
 use Rattle.std.proofs.lemmas.List.Sums.{sum_by-append}
 use Rattle.std.proofs.lemmas.Fmt.{decimal_is_IsNumeral, length-decimal-le}
-use Rattle.pf_base.specs.Decimal.{decimal_of}
+use Rattle.pf_base.specs.Text.{is_nothing}
+use Rattle.pf_base.specs.Decimal.{decimal_of, digits_after, is_decimal}
 use Rattle.pf_addr.specs.declared.addr.Addr.{Addr}
 use Rattle.pf_addr.specs.declared.addr.Addr.TheVariants.{V4, V6}
 use Rattle.pf_addr.specs.Addr.{width}
-use Rattle.pf_addr.specs.Grammar.{IsIpv4, IsIpv6, IsAddrText, zeros, IsShortIpv4, IsNetworkText, IsMask, slash, Writes}
+use Rattle.pf_addr.specs.Grammar.{IsIpv4, IsIpv6, IsAddrText, zeros, IsShortIpv4, IsNetworkText, IsMask, slash, IsMasked, Writes}
 use Rattle.pf_addr.proofs.Values.{IsIpv4-unique, IsIpv6-unique, IsAddrText-unique}
 
 -- ---- no slash stands in an address
@@ -97,6 +100,36 @@ no_cut : (text xs ys : List ℕ) → All NotSlash text → text ≡ xs ++ slash 
 no_cut text [] ys h e = absurd (All-head NotSlash slash ys (All-same NotSlash _ _ (sym e) h) refl)
 no_cut [] (x ∷ xs) ys h e = absurd cc
 no_cut (t ∷ text) (x ∷ xs) ys h e = no_cut text xs ys (All-tail NotSlash t text h) cc
+
+-- a text with one slash is cut at it in one way
+last_cut : (xs ys us vs : List ℕ) → All NotSlash xs → All NotSlash ys → xs ++ slash ∷ ys ≡ us ++ slash ∷ vs → (xs ≡ us) × (ys ≡ vs)
+last_cut [] ys [] vs h k e = (refl, cc)
+last_cut [] ys (u ∷ us) vs h k e = absurd (omega (arith, no_cut ys us vs k cc))
+last_cut (x ∷ xs) ys [] vs h k e =
+    let first : x ≡ slash = cc in
+    absurd (All-head NotSlash x xs h first)
+last_cut (x ∷ xs) ys (u ∷ us) vs h k e =
+    let rest : xs ++ slash ∷ ys ≡ us ++ slash ∷ vs = cc in
+    let first : x ≡ u = cc in
+    let later = last_cut xs ys us vs (All-tail NotSlash x xs h) k rest in
+    (cc (first, later.0), later.1)
+
+-- no slash stands in a mask
+when_some : (b : Bool) (x y : ℕ) → ◌≡◌ {A = Option ℕ} (if b then Some x else None) (Some y) → b ≡ true
+when_some true x y e = refl
+when_some false x y e = absurd cc
+
+digits_bytes : (ds : List ℕ) → list_all is_ascii_digit ds ≡ true → All NotSlash ds
+digits_bytes [] h = All-nil NotSlash
+digits_bytes (d ∷ ds) h =
+    let other : NotSlash d = λ e. let wrong : is_ascii_digit slash ≡ true = subst (λ (t : ℕ). is_ascii_digit t ≡ true) e (first_so _ _ h) in cc in
+    All-cons NotSlash d ds other (digits_bytes ds (second_so _ _ h))
+
+All-mask : (text : List ℕ) (n : ℕ) → IsMask text n → All NotSlash text
+unfolding decimal_of
+All-mask text n h =
+    let both = first_so _ _ (when_some (is_decimal text && nat_le (digits_after 0 text) 999) (digits_after 0 text) n h.0) in
+    digits_bytes text (second_so _ _ both)
 
 -- ---- the dots of an IPv4 address
 
@@ -201,7 +234,7 @@ not_both text m n h k =
     let all = All-weaker IsDigitOrDot NotColon digit_or_dot_colon _ (dotted_bytes _ _ h.filled.dotted) in
     no_colon text k.groups (All-front NotColon text (zeros h.missing) all) k.hex
 
-IsNetworkText-unique : (text : List ℕ) (a b : Addr) → IsNetworkText text a → IsNetworkText text b → a ≡ b
+pub IsNetworkText-unique : (text : List ℕ) (a b : Addr) → IsNetworkText text a → IsNetworkText text b → a ≡ b
 IsNetworkText-unique text (V4 m) (V4 n) h k = ap V4 (IsShortIpv4-unique text m n h k)
 IsNetworkText-unique text (V6 m) (V6 n) h k = ap V6 (IsIpv6-unique text m n h k)
 IsNetworkText-unique text (V4 m) (V6 n) h k = absurd (omega (arith, not_both text m n h k))
@@ -224,14 +257,34 @@ Writes-unique text a b m n (inr h) (inr k) =
       same_mask (sym h.mask.0 ∙ ap (decimal_of 999) parts.1 ∙ k.mask.0),
     )
 
--- a text with no slash writes an address alone
-pub no_mask : (text : List ℕ) (a : Addr) (n : ℕ) → All NotSlash text → Writes text a n → IsAddrText text a
-no_mask text a n all (inl h) = h.0
-no_mask text a n all (inr h) = absurd (omega (arith, no_cut text h.front h.digits all h.spelled))
-
--- a text with a slash writes what its two parts write
-pub with_mask : (text front digits : List ℕ) (a : Addr) (n : ℕ) → All NotSlash front → text ≡ front ++ slash ∷ digits → Writes text a n → IsNetworkText front a × IsMask digits n
-with_mask text front digits a n all spelled (inl h) = absurd (omega (arith, no_cut text front digits (All-addr text a h.0) spelled))
-with_mask text front digits a n all spelled (inr h) =
-    let parts = same_cut h.front h.digits front digits (All-network _ a h.address) all (sym h.spelled ∙ spelled) in
+-- two words with a slash between them are an address with a mask where the one is the address and the other the mask
+pub masked_parts : (front digits : List ℕ) (a : Addr) (n : ℕ) → IsMasked (front ++ slash ∷ digits) a n → IsNetworkText front a × IsMask digits n
+masked_parts front digits a n h =
+    let parts = last_cut h.front h.digits front digits (All-network _ a h.address) (All-mask h.digits n h.mask) (sym h.spelled) in
     (subst (λ (t : List ℕ). IsNetworkText t a) parts.0 h.address, subst (λ (t : List ℕ). IsMask t n) parts.1 h.mask)
+
+-- a text with a slash writes an address with a mask
+pub writes_masked : (front digits : List ℕ) (a : Addr) (n : ℕ) → Writes (front ++ slash ∷ digits) a n → IsMasked (front ++ slash ∷ digits) a n
+writes_masked front digits a n (inl h) = absurd (omega (arith, no_cut _ front digits (All-addr _ a h.0) refl))
+writes_masked front digits a n (inr h) = h
+
+-- a text with no slash has no mask
+pub not_masked : (text : List ℕ) (a : Addr) (n : ℕ) → All NotSlash text → IsMasked text a n → 0 < 0
+not_masked text a n all h = no_cut text h.front h.digits all h.spelled
+
+-- what was read of a text that is no address alone
+no_reading : (text : List ℕ) → ((a : Addr) → IsAddrText text a → ⊥) → ((a : Addr) (n : ℕ) → IsMasked text a n → ⊥) → (a : Addr) (n : ℕ) → Writes text a n → ⊥
+no_reading text none no_mask a n (inl h) = none a h.0
+no_reading text none no_mask a n (inr h) = no_mask a n h
+
+pub written_from : (text : List ℕ) (r : Option (Addr × ℕ)) → ((a : Addr) → IsAddrText text a → ⊥) → MatchOption r ((a : Addr) (n : ℕ) → IsMasked text a n → ⊥) (λ x. IsMasked text x.0 x.1)
+    → MatchOption r ((a : Addr) (n : ℕ) → Writes text a n → ⊥) (λ x. Writes text x.0 x.1)
+written_from text None none h = no_reading text none h
+written_from text (Some x) none h = inr h
+
+-- no address is written by nothing
+pub text_some : (text : List ℕ) (a : Addr) → IsAddrText text a → is_nothing text ≡ false
+text_some [] (V4 n) h =
+    absurd (omega (arith, dots-dotted [] h.octets h.dotted))
+text_some [] (V6 n) h = absurd (omega (arith, no_colon [] h.groups (All-nil NotColon) h.hex))
+text_some (b ∷ bytes) a h = refl

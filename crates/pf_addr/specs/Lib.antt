@@ -5,6 +5,8 @@ pub mod Stretch
 pub mod AddrOrder
 pub mod PrefixOrder
 pub mod RangeOrder
+pub mod Dynamic
 pub mod Grammar
 pub mod Text
 pub mod PrefixText
+pub mod Words

@@ -1,13 +1,18 @@
 -- The order of prefixes, and when two are one.
-use Rattle.std.specs.Prelude.{◌≡◌, ℕ, Bool, ◌++◌, nat_eq, IsTrue}
+use Rattle.std.specs.Prelude.{◌≡◌, ℕ, ◌-◌, ◌%◌, ◌^◌, ◌≤◌, Bool, ◌++◌, nat_eq, IsTrue}
 use Rattle.std.specs.declared.cmp.Ordering.{Ordering}
+use Rattle.pf_base.specs.Equality.{Equality}
+use Rattle.std.specs.Coded.{le_prop}
+use mathlib.Core.HLevel.{is_prop→PathP}
+use native.Mathlib.Nat.{ℕ_set}
 use Rattle.std.specs.Cmp.{IsEquivalence, IsTotalOrder, IsPartialOrder, and_equiv, both_tied, first_so, nat_cmp_total, nat_eq_equiv, on_equiv, on_total, po, second_so, then_total, unsigned_Decides, unsigned_ties}
 use Rattle.std.specs.Ordering.{nat_cmp, on, then_cmp, eq_of_both, eq_by_cmp, as_partial_cmp}
 use Rattle.std.specs.Hash.{HashWrites, u8}
 use Rattle.std.proofs.Common.{ap, ◌∙◌}
 use Rattle.pf_addr.specs.declared.addr.Addr.{Addr}
 use Rattle.pf_addr.specs.declared.prefix.Prefix.{Prefix}
-use Rattle.pf_addr.specs.AddrOrder.{addr_cmp, addr_eq, addr_input, addr_cmp-total, addr_eq-addr_cmp, addr_eq-equivalence, addr_eq-addr_input}
+use Rattle.pf_addr.specs.AddrOrder.{addr_cmp, addr_eq, addr_input, addr_cmp-total, addr_eq-addr_cmp, addr_eq-equivalence, addr_same, tells, addr_eq-addr_input}
+use Rattle.pf_addr.specs.Addr.{number, width}
 
 -- the address of a prefix, and its length
 abbrev pub addr_in : Prefix → Addr
@@ -32,6 +37,23 @@ prefix_input p = addr_input p.addr ++ u8 p.len
 
 pub prefix_eq-equivalence : IsEquivalence prefix_eq
 prefix_eq-equivalence = and_equiv (on_equiv addr_in addr_eq-equivalence) (on_equiv len_in nat_eq_equiv)
+
+-- a prefix is its address and its length
+pub Prefix-same : (p q : Prefix) → p.addr ≡ q.addr → p.len ≡ q.len → p ≡ q
+Prefix-same p q e f = λ i. record {
+  addr = e i;
+  len = f i;
+  fits = is_prop→PathP (λ j. f j ≤ width (e j)) (λ j. le_prop) p.fits q.fits i;
+  no_host_bits = is_prop→PathP (λ j. number (e j) % 2 ^ (width (e j) - f j) ≡ 0) (λ j. ℕ_set _ _) p.no_host_bits q.no_host_bits i;
+}
+
+pub prefix_same : (p q : Prefix) → IsTrue (prefix_eq p q) → p ≡ q
+prefix_same p q h =
+    Prefix-same p q (addr_same p.addr q.addr (first_so _ _ h)) ((unsigned_Decides p.len q.len).0 (second_so _ _ h))
+
+-- the test as decided equality
+abbrev pub prefixes : Equality Prefix
+prefixes = record { same = prefix_eq; decides = tells prefix_eq-equivalence prefix_same }
 
 pub prefix_cmp-total : IsTotalOrder prefix_cmp
 prefix_cmp-total = then_total (on_total addr_in addr_cmp-total) (on_total len_in nat_cmp_total)

@@ -1,7 +1,7 @@
 //! An address.
 ghost use Rattle.std.specs.Prelude.{◌≡◌, ◌*◌, ◌/◌, ◌^◌, ◌≤◌, ◌↔◌, IsTrue};
 
-use pf_base::Family;
+use pf_base::{Family, Same};
 use std::cmp::Ordering;
 use std::hash::{Hash, Hasher};
 
@@ -95,6 +95,16 @@ impl Eq for Addr {
     ghost use Rattle.pf_addr.specs.AddrOrder.{addr_eq-equivalence};
 
     ghost laws = { addr_eq-equivalence };
+}
+
+impl Same for Addr {
+    ghost use Rattle.pf_addr.specs.AddrOrder.{addrs};
+
+    ghost equality = { addrs };
+
+    fn same(&self, other: &Addr) -> bool {
+        self == other
+    }
 }
 
 impl Ord for Addr {

@@ -2,7 +2,7 @@
 ghost use Rattle.std.specs.Prelude.{◌≡◌};
 
 use crate::addr::Addr;
-use pf_base::Name;
+use pf_base::{Name, Same};
 
 /// The addresses of an interface or a group, as `(name)`, `(name:network)` and `(name:0)` of pf.conf(5).
 #[derive(Clone, Copy, Debug, PartialEq, Eq)]
@@ -12,6 +12,18 @@ pub struct DynIf {
     pub network: bool,
     /// Only the first of each family of each interface.
     pub first: bool,
+}
+
+impl Same for DynIf {
+    ghost use Rattle.pf_addr.specs.Dynamic.{dynamics};
+
+    ghost equality = { dynamics };
+
+    fn same(&self, other: &DynIf) -> bool {
+        self.name.same(&other.name)
+            && self.network.same(&other.network)
+            && self.first.same(&other.first)
+    }
 }
 
 /// The interfaces of a host, as far as a rule asks for them.

@@ -6,6 +6,7 @@
 
 pub mod addr;
 pub mod ifaces;
+pub mod laws;
 mod line;
 pub mod parse;
 pub mod prefix;
@@ -15,7 +16,11 @@ pub mod stretch;
 
 pub use addr::Addr;
 pub use ifaces::{DynIf, Ifaces};
-pub use parse::{AddrFault, parse_addr, parse_prefix};
+pub use laws::{
+    equal_values_are_one, printed_texts_are_one_word, printed_texts_read_back,
+    texts_are_read_in_one_way,
+};
+pub use parse::{AddrFault, Masked, parse_addr, parse_masked, parse_prefix, parse_prefix_parts};
 pub use prefix::Prefix;
 pub use print::{put_addr, put_prefix};
 pub use range::{Range, RangeFault};

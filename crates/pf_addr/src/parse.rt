@@ -1,8 +1,8 @@
 //! From a text to an address or a prefix.
 ghost use Rattle.std.specs.Prelude.{◌≡◌, ℕ, ◌+◌, ◌≤◌, ◌<◌, ◌≢◌, ◌↔◌, ◌++◌, ◌∷◌, ◌==◌, count_by, length, take, All, IfOk, IfErr, IfSome, IfNone, IsOkAnd, MatchOption};
 ghost use Rattle.pf_addr.specs.Addr.{width};
-ghost use Rattle.pf_addr.specs.Grammar.{IsIpv4, IsIpv6, IsShortIpv4, IsAddrText, IsNetworkText, IsMask, Writes, slash, zeros};
-ghost use Rattle.pf_addr.specs.PrefixText.{IsNetworkOf, IsPrefixText, IsTooLong};
+ghost use Rattle.pf_addr.specs.Grammar.{IsIpv4, IsIpv6, IsShortIpv4, IsAddrText, IsNetworkText, IsMask, IsMasked, Writes, slash, zeros};
+ghost use Rattle.pf_addr.specs.PrefixText.{IsMaskTooLong, IsMaskedText, IsNetworkOf, IsPrefixText, IsTooLong};
 
 use crate::addr::Addr;
 use crate::prefix::Prefix;
@@ -16,6 +16,13 @@ pub enum AddrFault {
     NotAnAddress,
     /// The mask has this many bits, more than the 32 or 128 of the address.
     MaskTooLong(u32),
+}
+
+/// An address that was written with a mask, and its network.
+#[derive(Clone, Copy, Debug, PartialEq, Eq)]
+pub struct Masked {
+    pub addr: Addr,
+    pub network: Prefix,
 }
 
 // The longest IPv4 address has this many bytes.
@@ -108,16 +115,33 @@ fn split_mask(text: &[u8]) -> Option<(&[u8], &[u8])>
     None
 }
 
-// The address that a text writes, and how many bits its mask has.
-fn parse_masked(text: &[u8]) -> Option<(Addr, u32)>
+// The address and the mask of two words, the first of which stands before a slash.
+fn parse_parts(front: &[u8], digits: &[u8]) -> Option<(Addr, u32)>
+    ensures { MatchOption result
+        ((a : Addr) (n : ℕ) → IsMasked (front.now ++ slash ∷ digits.now) a n → ⊥)
+        (λ r. IsMasked (front.now ++ slash ∷ digits.now) r.0 r.1) }
+{
+    Some((parse_network(front)?, parse_mask(digits)?))
+}
+
+// The address and the mask of a text.
+fn parse_cut(text: &[u8]) -> Option<(Addr, u32)>
+    ensures { MatchOption result
+        ((a : Addr) (n : ℕ) → IsMasked text.now a n → ⊥) (λ r. IsMasked text.now r.0 r.1) }
+{
+    let (front, digits) = split_mask(text)?;
+    parse_parts(front, digits)
+}
+
+// The address that a text writes, and how many bits its mask has, or all bits where it has no mask.
+fn parse_written(text: &[u8]) -> Option<(Addr, u32)>
     ensures { MatchOption result
         ((a : Addr) (n : ℕ) → Writes text.now a n → ⊥) (λ r. Writes text.now r.0 r.1) }
 {
-    let Some((front, digits)) = split_mask(text) else {
-        let addr = parse_addr(text).ok()?;
-        return Some((addr, u32::from(addr.width())));
-    };
-    Some((parse_network(front)?, parse_mask(digits)?))
+    match parse_addr(text) {
+        Ok(addr) => Some((addr, u32::from(addr.width()))),
+        Err(_) => parse_cut(text),
+    }
 }
 
 // The prefix of the first `len` bits of an address.
@@ -132,6 +156,15 @@ fn prefix_of(addr: Addr, len: u32) -> Result<Prefix, AddrFault>
         }),
         _ => Err(AddrFault::MaskTooLong(len)),
     }
+}
+
+// The address, and the prefix of its first `len` bits.
+fn masked_of(addr: Addr, len: u32) -> Result<Masked, AddrFault>
+    ensures ok { len ≤ width addr → IsOkAnd result (λ m. (m.addr ≡ addr) × IsNetworkOf addr len m.network) }
+    ensures too_long { width addr < len → result ≡ Err (AddrFault.MaskTooLong len) }
+{
+    let network = prefix_of(addr, len)?;
+    Ok(Masked { addr, network })
 }
 
 /// Reads an IPv4 address of four numbers, or an IPv6 address (RFC 4291, 2.2). `NotAnAddress` comes exactly
@@ -162,8 +195,39 @@ pub fn parse_prefix(text: &[u8]) -> Result<Prefix, AddrFault>
     ensures not_an_address { (result ≡ Err AddrFault.NotAnAddress)
         ↔ ((a : Addr) (n : ℕ) → Writes text.now a n → ⊥) }
 {
-    match parse_masked(text) {
+    match parse_written(text) {
         Some((addr, len)) => prefix_of(addr, len),
+        None => Err(AddrFault::NotAnAddress),
+    }
+}
+
+/// Reads a prefix whose address and mask are two words: as [`parse_prefix`] reads the text that has a slash
+/// between them, with the same faults. No word with a slash in it is read.
+pub fn parse_prefix_parts(word: &[u8], mask: &[u8]) -> Result<Prefix, AddrFault>
+    ensures found { IfOk result (IsPrefixText (word.now ++ slash ∷ mask.now)) }
+    ensures only { (p : Prefix) → IsPrefixText (word.now ++ slash ∷ mask.now) p → result ≡ Ok p }
+    ensures too_long { (n : ℕ) → (result ≡ Err (AddrFault.MaskTooLong n))
+        ↔ IsTooLong (word.now ++ slash ∷ mask.now) n }
+    ensures not_an_address { (result ≡ Err AddrFault.NotAnAddress)
+        ↔ ((a : Addr) (n : ℕ) → Writes (word.now ++ slash ∷ mask.now) a n → ⊥) }
+{
+    match parse_parts(word, mask) {
+        Some((addr, len)) => prefix_of(addr, len),
+        None => Err(AddrFault::NotAnAddress),
+    }
+}
+
+/// Reads `address/bits` as [`parse_prefix`], and gives the address as it was written beside the network. The
+/// mask is needed: without it, or where the text has no such form, the fault is `NotAnAddress`.
+pub fn parse_masked(text: &[u8]) -> Result<Masked, AddrFault>
+    ensures found { IfOk result (IsMaskedText text.now) }
+    ensures only { (m : Masked) → IsMaskedText text.now m → result ≡ Ok m }
+    ensures too_long { (n : ℕ) → (result ≡ Err (AddrFault.MaskTooLong n)) ↔ IsMaskTooLong text.now n }
+    ensures not_an_address { (result ≡ Err AddrFault.NotAnAddress)
+        ↔ ((a : Addr) (n : ℕ) → IsMasked text.now a n → ⊥) }
+{
+    match parse_cut(text) {
+        Some((addr, len)) => masked_of(addr, len),
         None => Err(AddrFault::NotAnAddress),
     }
 }

@@ -4,7 +4,7 @@ ghost use Rattle.pf_addr.specs.Addr.{width, number};
 
 use crate::addr::{Addr, without_last};
 use crate::stretch::Stretch;
-use pf_base::Family;
+use pf_base::{Family, Same};
 use std::cmp::Ordering;
 use std::hash::{Hash, Hasher};
 
@@ -105,6 +105,16 @@ impl Eq for Prefix {
     ghost use Rattle.pf_addr.specs.PrefixOrder.{prefix_eq-equivalence};
 
     ghost laws = { prefix_eq-equivalence };
+}
+
+impl Same for Prefix {
+    ghost use Rattle.pf_addr.specs.PrefixOrder.{prefixes};
+
+    ghost equality = { prefixes };
+
+    fn same(&self, other: &Prefix) -> bool {
+        self == other
+    }
 }
 
 impl Ord for Prefix {

@@ -4,7 +4,7 @@ ghost use Rattle.pf_addr.specs.Addr.{number, SameFamily};
 
 use crate::addr::Addr;
 use crate::stretch::Stretch;
-use pf_base::Family;
+use pf_base::{Family, Same};
 use std::hash::{Hash, Hasher};
 
 /// The addresses of one family from `low` to `high`, both among them.
@@ -98,6 +98,16 @@ impl Eq for Range {
     ghost use Rattle.pf_addr.specs.RangeOrder.{range_eq-equivalence};
 
     ghost laws = { range_eq-equivalence };
+}
+
+impl Same for Range {
+    ghost use Rattle.pf_addr.specs.RangeOrder.{ranges};
+
+    ghost equality = { ranges };
+
+    fn same(&self, other: &Range) -> bool {
+        self == other
+    }
 }
 
 impl Hash for Range {

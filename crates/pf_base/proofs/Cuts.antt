@@ -1,5 +1,5 @@
 -- Cutting a list at its first element that passes a test.
-use Rattle.std.proofs.Common.{◌≡◌, ℕ, ◌+◌, ◌<◌, ◌≤◌, Bool, true, false, cond, not, nat_lt, List, [], ◌∷◌, ◌++◌, length, take, drop, get_or, Some, None, refl, ap, ◌∙◌, subst, arith, suc}
+use Rattle.std.proofs.Common.{◌≡◌, ℕ, ◌+◌, ◌<◌, ◌≤◌, Bool, true, false, cond, not, nat_lt, List, [], ◌∷◌, ◌++◌, length, take, get_or, Some, None, refl, ap, ◌∙◌, subst, arith, suc}
 use Rattle.std.specs.List.{slice_split, onto_first, list_all, position, position_or_len}
 use Rattle.std.specs.Cmp.{first_so, second_so}
 use Rattle.std.proofs.lemmas.Bool.{ltb-true, ltb-false}
@@ -7,14 +7,11 @@ use Rattle.std.proofs.lemmas.List.{take_all}
 use Rattle.std.proofs.lemmas.List.Sums.{passes_at_first, split_at_first as cut_at_first}
 use Rattle.std.proofs.lemmas.List.Folds.{list_all-append}
 use Rattle.pf_base.specs.Text.{but_last, last_part}
+pub use Rattle.pf_base.specs.Cuts.{IsFirst, NonePasses}
 
 pub not_true : (b : Bool) → not b ≡ true → b ≡ false
 not_true true h = cc
 not_true false h = refl
-
--- none of the elements passes
-abbrev pub NonePasses : {X : Type 0} → (X → Bool) → List X → Type 0
-NonePasses p xs = list_all (λ x. not (p x)) xs ≡ true
 
 -- the first part ends at the first element that passes
 pub split_at_first : {X : Type 0} (p : X → Bool) (xs : List X) (y : X) (ys : List X) → NonePasses p xs → p y ≡ true → slice_split p (xs ++ y ∷ ys) ≡ xs ∷ slice_split p ys
@@ -34,13 +31,6 @@ split_none p (x ∷ xs) none =
 
 pub none_append : {X : Type 0} (p : X → Bool) (xs ys : List X) → NonePasses p xs → NonePasses p ys → NonePasses p (xs ++ ys)
 none_append p xs ys a b = list_all-append (λ x. not (p x)) xs ys ∙ rw (a, b) refl
-
--- what holds at the place that `position` gives
-pub record IsFirst {X : Type 0} (p : X → Bool) (xs : List X) (i : ℕ) (y : X) : Type 0 where
-  pub inside : i < length xs
-  pub passes : p y ≡ true
-  pub before : NonePasses p (take i xs)
-  pub joined : xs ≡ take i xs ++ y ∷ drop (i + 1) xs
 
 some_is : {A : Type 0} (b : Bool) (x y : A) → cond b (Some x) None ≡ Some y → (b ≡ true) × (x ≡ y)
 some_is true x y h = (refl, cc)

@@ -9,7 +9,7 @@ use Rattle.std.proofs.lemmas.List.Folds.{list_all_at}
 use Rattle.std.proofs.lemmas.List.Splits.{join_with_byte-slice_split}
 use Rattle.pf_base.specs.declared.path_fault.PathFault.{PathFault}
 use Rattle.pf_base.specs.declared.path_fault.PathFault.TheVariants.{Empty, BadByte, Reserved, TooLong, TooDeep}
-use Rattle.pf_base.specs.Name.{is_name_byte}
+use Rattle.pf_base.specs.Name.{is_plain_byte}
 use Rattle.pf_base.specs.Path.{is_slash, is_dots, is_path_name, is_reserved, is_written_name, IsPathText, path_text, bad_byte, name_fault, names_fault, path_of_names, read_path}
 use Rattle.pf_base.specs.Text.{is_nothing}
 use Rattle.pf_base.specs.Name.{IsNameText}
@@ -17,25 +17,25 @@ use Rattle.pf_base.proofs.Cuts.{NonePasses, first_of_position, split_none, split
 use Rattle.pf_base.proofs.PathReads.{or_none, named_without_fault, some_without_fault}
 
 -- no byte of a name is a `/`
-slash_free_byte : (byte : ℕ) → is_name_byte byte ≡ true → not (is_slash byte) ≡ true
-unfolding is_name_byte
+slash_free_byte : (byte : ℕ) → is_plain_byte byte ≡ true → not (is_slash byte) ≡ true
+unfolding is_plain_byte
 slash_free_byte byte h =
     ⊎_elim
-    (λ slash. absurd (false≢true (subst (λ b. is_name_byte b ≡ true) (eqb-true byte 47 slash) h)))
+    (λ slash. absurd (false≢true (subst (λ b. is_plain_byte b ≡ true) (eqb-true byte 47 slash) h)))
     (λ other. ap not other)
     (cases_Bool (is_slash byte))
 
-slash_free : (bytes : List ℕ) → list_all is_name_byte bytes ≡ true → NonePasses is_slash bytes
+slash_free : (bytes : List ℕ) → list_all is_plain_byte bytes ≡ true → NonePasses is_slash bytes
 slash_free [] h = refl
 slash_free (byte ∷ bytes) h =
-    let both = and_parts (is_name_byte byte) (list_all is_name_byte bytes) h in
+    let both = and_parts (is_plain_byte byte) (list_all is_plain_byte bytes) h in
     and_from _ _ (slash_free_byte byte both.0) (slash_free bytes both.1)
 
 -- what a written name is
 record Written (any : Bool) (name : List ℕ) : Type 0 where
   some : 0 < length name
   few : length name ≤ 63
-  bytes : list_all is_name_byte name ≡ true
+  bytes : list_all is_plain_byte name ≡ true
   dots : is_dots name ≡ false
   free : (any || not (is_reserved name)) ≡ true
 
@@ -97,14 +97,14 @@ all_written any start (name ∷ names) h =
     and_from _ _ (written_without_fault any start name both.0) (all_written any (start + length name + 1) names both.1)
 
 -- a written name has no fault
-no_place : (name : List ℕ) → list_all is_name_byte name ≡ true → position (λ byte. not (is_name_byte byte)) name ≡ None
+no_place : (name : List ℕ) → list_all is_plain_byte name ≡ true → position (λ byte. not (is_plain_byte byte)) name ≡ None
 no_place name all =
-    let p : ℕ → Bool = λ byte. not (is_name_byte byte) in
+    let p : ℕ → Bool = λ byte. not (is_plain_byte byte) in
     elim (position p name) as (λ o. position p name ≡ o → o ≡ None) [
       | None ↦ λ _. refl
       | Some i ↦ λ h.
           let first = first_of_position p name i 0 h in
-          absurd (false≢true (sym (list_all_at is_name_byte name i 0 first.inside (not_false _ first.passes)) ∙ all))
+          absurd (false≢true (sym (list_all_at is_plain_byte name i 0 first.inside (not_false _ first.passes)) ∙ all))
     ] refl
 
 free_of_reserved : (any reserved : Bool) → (any || not reserved) ≡ true → (not any && reserved) ≡ false
@@ -122,7 +122,7 @@ no_trial empty dots reserved long place a b c d at h i j k l = rw (h, i, j, k, l
 fault_none : (any : Bool) (start : ℕ) (name : List ℕ) → Written any name → name_fault any start name ≡ None
 unfolding name_fault bad_byte
 fault_none any start name w =
-    no_trial (is_nothing name) (is_dots name) (not any && is_reserved name) (nat_lt 63 (length name)) (position (λ byte. not (is_name_byte byte)) name) Empty (BadByte start) Reserved (TooLong (length name)) (λ i. BadByte (start + i))
+    no_trial (is_nothing name) (is_dots name) (not any && is_reserved name) (nat_lt 63 (length name)) (position (λ byte. not (is_plain_byte byte)) name) Empty (BadByte start) Reserved (TooLong (length name)) (λ i. BadByte (start + i))
     (something name w.some) w.dots (no_place name w.bytes) (free_of_reserved any (is_reserved name) w.free) (le-ltb 63 (length name) w.few)
 
 faults_none : (any : Bool) (start : ℕ) (names : List (List ℕ)) → list_all (is_written_name any) names ≡ true → names_fault any start names ≡ None

@@ -6,7 +6,7 @@ use Rattle.std.proofs.lemmas.Bool.{and_parts, and_from, cases_lt, cond-true, lt-
 use Rattle.std.proofs.lemmas.List.{append-nil, length-take, length-take-le, take-append-le, take_all, take-take}
 use Rattle.pf_base.specs.declared.path_fault.PathFault.{PathFault}
 use Rattle.pf_base.specs.declared.path_fault.PathFault.TheVariants.{BadByte, TooDeep}
-use Rattle.pf_base.specs.Name.{is_name_byte}
+use Rattle.pf_base.specs.Name.{is_plain_byte}
 use Rattle.pf_base.specs.Path.{is_slash, is_dots, is_path_name, bad_byte, name_fault, names_fault, path_of_names, checked_name, names_behind, bytes_behind}
 use Rattle.pf_base.proofs.Cuts.{IsFirst, none_of_position, split_at_first}
 
@@ -34,8 +34,8 @@ pub named_without_fault : (any : Bool) (start : ℕ) (name : List ℕ) → name_
 unfolding name_fault bad_byte is_path_name
 named_without_fault any start name h =
     let rest = (or_none _ _ h).1 in
-    let good = no_bad (is_dots name) (position (λ byte. not (is_name_byte byte)) name) (BadByte start) (λ i. BadByte (start + i)) (or_none _ _ rest).0 in
-    let bytes = all_not_not is_name_byte name (none_of_position (λ byte. not (is_name_byte byte)) name good.1) in
+    let good = no_bad (is_dots name) (position (λ byte. not (is_plain_byte byte)) name) (BadByte start) (λ i. BadByte (start + i)) (or_none _ _ rest).0 in
+    let bytes = all_not_not is_plain_byte name (none_of_position (λ byte. not (is_plain_byte byte)) name good.1) in
     and_from _ _ bytes (ap not good.0)
 
 -- and has a byte

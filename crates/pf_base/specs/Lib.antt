@@ -1,6 +1,10 @@
+pub mod Cuts
 pub mod Decimal
+pub mod Equality
+pub mod Kinds
 pub mod Name
 pub mod NameKept
+pub mod OrderedMap
 pub mod Padding
 pub mod Path
 pub mod PathKept

@@ -3,7 +3,7 @@ use Rattle.std.specs.Prelude.{◌≡◌, ℕ, ◌+◌, ◌≤◌, Bool, true, fa
 use Rattle.std.specs.Str.{bytes_eq}
 use Rattle.std.specs.List.{list_all, join_with_byte, position, slice_split}
 use Rattle.std.specs.Option.{option_or, option_map}
-use Rattle.pf_base.specs.Name.{is_name_byte}
+use Rattle.pf_base.specs.Name.{is_plain_byte}
 use Rattle.pf_base.specs.Text.{is_nothing}
 use Rattle.pf_base.specs.declared.path_fault.PathFault.{PathFault}
 use Rattle.pf_base.specs.declared.path_fault.PathFault.TheVariants.{Empty, BadByte, Reserved, TooLong, TooDeep}
@@ -17,7 +17,7 @@ is_dots name = bytes_eq name (codes ".") || bytes_eq name (codes "..")
 
 -- whether a name may stand in a path
 unfoldable pub is_path_name : List ℕ → Bool
-is_path_name name = list_all is_name_byte name && not (is_dots name)
+is_path_name name = list_all is_plain_byte name && not (is_dots name)
 
 -- names that begin with `_` are those of anchors without a name
 unfoldable pub is_reserved : List ℕ → Bool
@@ -49,7 +49,7 @@ pub record IsPathText (any : Bool) (names : List (List ℕ)) (text : List ℕ) :
 unfoldable pub bad_byte : ℕ → List ℕ → Option PathFault
 bad_byte start name =
     if is_dots name then Some (BadByte start)
-    else option_map (λ i. BadByte (start + i)) (position (λ byte. not (is_name_byte byte)) name)
+    else option_map (λ i. BadByte (start + i)) (position (λ byte. not (is_plain_byte byte)) name)
 
 -- the fault of a name that begins at a position of the text, where it has one
 unfoldable pub name_fault : Bool → ℕ → List ℕ → Option PathFault

@@ -1,7 +1,7 @@
 //! Two small enums that several crates share.
 
 /// An address family, as `inet` and `inet6` of pf.conf(5).
-#[derive(Clone, Copy, Debug, PartialEq, Eq, PartialOrd, Ord)]
+#[derive(Clone, Copy, Debug, PartialEq, Eq, PartialOrd, Ord, Hash)]
 pub enum Family {
     /// IPv4.
     Inet,

@@ -1,14 +1,16 @@
 //! Names of interfaces, tables, queues, tags and the like.
-ghost use Rattle.std.specs.Prelude.{◌≡◌, IfSome, IsSome, ◌↔◌};
+ghost use Rattle.std.specs.Prelude.{◌≡◌, ◌≤◌, IfSome, IsSome, length, take, ◌↔◌};
 ghost use Rattle.std.proofs.Common.{rules};
 ghost use Rattle.std.specs.Cmp.{partial_order_from_own_ties};
 ghost use Rattle.std.specs.Cmp.Lexicographic.{pointwise, slice_cmp};
-ghost use Rattle.std.specs.Cmp.Rules.{comparing};
+ghost use Rattle.std.specs.Cmp.Rules.{comparing, hashing};
+ghost use Rattle.std.specs.Hash as fed;
 ghost use Rattle.std.specs.Ordering.{nat_cmp, as_partial_cmp};
 ghost use Rattle.std.specs.Prelude.{nat_eq};
 ghost use Rattle.pf_base.specs.Name.{IsNameText};
 
 use std::cmp::Ordering;
+use std::hash::{Hash, Hasher};
 use std::marker::Model;
 
 /// A name of 1 to 63 bytes. Clauses see the list of its bytes.
@@ -67,6 +69,18 @@ impl Name {
     }
 }
 
+/// A word as a fault bears it: its first 63 bytes. Takes no memory.
+pub fn named_in_fault(word: &[u8]) -> Name
+    requires { 1 ≤ length word.now }
+    ensures { result ≡ take 63 word.now }
+{
+    let end = word.len().min(Name::MOST);
+    match Name::new(&word[..end]) {
+        Some(name) => name,
+        None => unreachable!(),
+    }
+}
+
 impl PartialEq for Name {
     ghost eq = { pointwise nat_eq };
 
@@ -102,5 +116,15 @@ impl PartialOrd for Name {
 
     fn partial_cmp(&self, other: &Name) -> Option<Ordering> {
         Some(self.cmp(other))
+    }
+}
+
+impl Hash for Name {
+    ghost hash_input = { fed.slice fed.u8 };
+
+    ghost respects_eq = { Prim.search (hashing, rules) };
+
+    fn hash<H: Hasher>(&self, state: &mut H) {
+        self.bytes().hash(state);
     }
 }

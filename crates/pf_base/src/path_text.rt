@@ -2,19 +2,19 @@
 ghost use Rattle.std.specs.Prelude.{◌≡◌, ◌+◌, ◌<◌, ◌^◌, ◌∷◌, length, not, position};
 ghost use Rattle.std.specs.Option.{option_copied};
 ghost use Rattle.std.specs.List.{slice_split};
-ghost use Rattle.pf_base.specs.Name.{is_name_byte};
+ghost use Rattle.pf_base.specs.Name.{is_plain_byte};
 ghost use Rattle.pf_base.specs.Path as path;
 
 use crate::name::Name;
 use crate::path::Path;
 use crate::path_fault::PathFault;
-use crate::plain::{are_name_bytes, is_name_byte};
+use crate::plain::{are_plain_bytes, is_plain_byte};
 
 // The first place of a byte that no name has.
 fn bad_place(name: &[u8]) -> Option<usize>
-    ensures { result ≡ position (λ byte. not (is_name_byte byte)) name.now }
+    ensures { result ≡ position (λ byte. not (is_plain_byte byte)) name.now }
 {
-    name.iter().position(|byte| !is_name_byte(*byte))
+    name.iter().position(|byte| !is_plain_byte(*byte))
 }
 
 // Is the text `.` or `..`?
@@ -30,7 +30,7 @@ fn is_dots(name: &[u8]) -> bool
 pub(crate) fn is_path_name(name: &[u8]) -> bool
     ensures { result ≡ path.is_path_name name.now }
 {
-    are_name_bytes(name) && !is_dots(name)
+    are_plain_bytes(name) && !is_dots(name)
 }
 
 // Does the name begin with `_`?

@@ -6,18 +6,18 @@ ghost use Rattle.pf_base.specs.Name as names;
 use crate::name::Name;
 
 /// Is the byte a letter, a digit or one of `_ - . : + @`?
-#[tactic(auto, unfolding(crate::specs::Name::is_name_byte))]
-pub fn is_name_byte(byte: u8) -> bool
-    ensures { result ≡ names.is_name_byte byte }
+#[tactic(auto, unfolding(crate::specs::Name::is_plain_byte))]
+pub fn is_plain_byte(byte: u8) -> bool
+    ensures { result ≡ names.is_plain_byte byte }
 {
     byte.is_ascii_alphanumeric() || matches!(byte, b'_' | b'-' | b'.' | b':' | b'+' | b'@')
 }
 
 /// Are all bytes such ones?
-pub fn are_name_bytes(text: &[u8]) -> bool
-    ensures { result ≡ list_all names.is_name_byte text.now }
+pub fn are_plain_bytes(text: &[u8]) -> bool
+    ensures { result ≡ list_all names.is_plain_byte text.now }
 {
-    text.iter().all(|byte| is_name_byte(*byte))
+    text.iter().all(|byte| is_plain_byte(*byte))
 }
 
 /// The name of this text: 1 to 63 such bytes. None exactly where it has other bytes, none or more.
@@ -25,7 +25,7 @@ pub fn are_name_bytes(text: &[u8]) -> bool
 pub fn plain_name(text: &[u8]) -> Option<Name>
     ensures { result ≡ names.plain_name text.now }
 {
-    if !are_name_bytes(text) {
+    if !are_plain_bytes(text) {
         return None;
     }
     Name::new(text)

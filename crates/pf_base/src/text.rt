@@ -1,6 +1,9 @@
 //! Cuts a text into lines, words and fields, and reads decimal numbers.
-ghost use Rattle.std.specs.Prelude.{◌≡◌, ℕ, List, [], ◌∷◌, ◌++◌, ◌<◌, ◌≤◌, length, IfSome, IfNone, MatchOption, position, not, ◌==◌};
-ghost use Rattle.pf_base.specs.Decimal.{decimal_of};
+ghost use Rattle.std.specs.Prelude.{◌≡◌, ℕ, Bool, true, List, [], ◌∷◌, ◌++◌, ◌<◌, ◌≤◌, length, IfSome, IfNone, position, not, slice_index, ◌==◌};
+ghost use Rattle.std.specs.Char.{is_ascii_digit};
+ghost use Rattle.std.specs.List.{list_all, slice_split};
+ghost use Rattle.pf_base.specs.Cuts.{IsFirst, NonePasses};
+ghost use Rattle.pf_base.specs.Decimal.{decimal_of, is_decimal};
 ghost use Rattle.pf_base.specs.Text.{CutsLine, CutsWord, EndsNoLine, LinesGoOn, fields_of, is_blank, is_newline, is_space, words_of};
 
 const NEWLINE: u8 = b'\n';
@@ -47,6 +50,15 @@ pub fn lines_go_on()
     ensures { (text more : List ℕ) → LinesGoOn text more }
 {}
 
+/// A law: `position` gives the first byte that passes a test, and a text is cut there; a text of no blank is one word.
+pub fn cut_laws()
+    ensures first { (p : ℕ → Bool) (text : List ℕ) (i : ℕ) → position p text ≡ Some i → IsFirst p text i (slice_index text i) }
+    ensures none { (p : ℕ → Bool) (text : List ℕ) → position p text ≡ None → NonePasses p text }
+    ensures split { (p : ℕ → Bool) (front back : List ℕ) (byte : ℕ) → NonePasses p front → p byte ≡ true → slice_split p (front ++ byte ∷ back) ≡ front ∷ slice_split p back }
+    ensures whole { (p : ℕ → Bool) (text : List ℕ) → NonePasses p text → slice_split p text ≡ text ∷ [] }
+    ensures word { (byte : ℕ) (text : List ℕ) → NonePasses is_blank (byte ∷ text) → words_of (byte ∷ text) ≡ (byte ∷ text) ∷ [] }
+{}
+
 /// The first word between blanks, and what stands behind it; None where no word is left.
 pub fn split_word(text: &[u8]) -> Option<(&[u8], &[u8])>
     ensures word { IfSome result (λ cut. CutsWord text.now cut.0.now cut.1.now) }
@@ -70,6 +82,20 @@ pub fn split_field(text: &[u8]) -> (&[u8], Option<&[u8]>)
         None => (text, None),
         Some(end) => (&text[..end], Some(&text[end + 1..])),
     }
+}
+
+/// Is the text one or more decimal digits, of any length? A number that is too large is so told from a name. Takes no memory.
+pub fn is_digits(text: &[u8]) -> bool
+    ensures { result ≡ is_decimal text.now }
+{
+    !text.is_empty() && are_digits(text)
+}
+
+// Are all bytes digits?
+fn are_digits(text: &[u8]) -> bool
+    ensures { result ≡ list_all is_ascii_digit text.now }
+{
+    text.iter().all(|byte| byte.is_ascii_digit())
 }
 
 /// The number of a text of decimal digits, where it is at most `most`. Leading zeros may stand.

@@ -1,2 +1,3 @@
 mod Subsets
 mod Operators
+pub mod Letters

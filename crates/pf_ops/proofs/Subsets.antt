@@ -4,11 +4,7 @@ use Rattle.std.proofs.lemmas.Bool.{false≢true, and_parts, and_from, or_cases, 
 use Rattle.pf_ops.specs.declared.numbers.Interval.{Interval}
 use Rattle.pf_ops.specs.declared.numbers.Numbers.{Numbers}
 use Rattle.pf_ops.specs.declared.numbers.Numbers.TheVariants.{Empty, One, Two}
-use Rattle.pf_ops.specs.Numbers.{in_interval, in_numbers, IsKept, Encloses, Covers}
-
--- the ends of a part lie between the ends of an interval
-abbrev pub lies_in : Interval → Interval → Bool
-lies_in all part = nat_le all.low part.low && nat_le part.high all.high
+use Rattle.pf_ops.specs.Numbers.{Covers, Encloses, IsKept, SameNumbers, covers, encloses, in_interval, in_numbers, lies_in}
 
 pub inside : (i : Interval) (n : ℕ) → i.low ≤ n → n ≤ i.high → in_interval i n ≡ true
 inside i n from to = and_from _ _ (le-leb _ _ from) (le-leb _ _ to)
@@ -73,50 +69,36 @@ two_each first last part h n inner =
 pub none_only : (part : Interval) → part.low ≤ part.high → Encloses Empty part → false ≡ true
 none_only part some h = h part.low (inside part part.low (omega arith) some)
 
--- the test that an interval lies in a set
-abbrev pub encloses_of : Numbers → Interval → Bool
-encloses_of Empty part = false
-encloses_of (One all) part = lies_in all part
-encloses_of (Two first last) part = lies_in first part || lies_in last part
-
-encloses_each : (set : Numbers) (part : Interval) → encloses_of set part ≡ true → Encloses set part
+encloses_each : (set : Numbers) (part : Interval) → encloses set part ≡ true → Encloses set part
 encloses_each Empty part h = absurd (false≢true h)
 encloses_each (One all) part h = lies_each all part h
 encloses_each (Two first last) part h = two_each first last part h
 
-encloses_only : (top : ℕ) (set : Numbers) (part : Interval) → IsKept top set → part.low ≤ part.high → Encloses set part → encloses_of set part ≡ true
+encloses_only : (top : ℕ) (set : Numbers) (part : Interval) → IsKept top set → part.low ≤ part.high → Encloses set part → encloses set part ≡ true
 encloses_only top Empty part kept some h = none_only part some h
 encloses_only top (One all) part kept some h = one_only all part some h
 encloses_only top (Two first last) part kept some h = two_only first last part kept.1 some h
 
-pub encloses_exact : (set : Numbers) (part : Interval) (r : Bool) → r ≡ encloses_of set part → (top : ℕ) → IsKept top set → part.low ≤ part.high → (r ≡ true) ↔ Encloses set part
-encloses_exact set part r is top kept some =
-    (λ yes. encloses_each set part (sym is ∙ yes), λ all. is ∙ encloses_only top set part kept some all)
+encloses_exact : (top : ℕ) (set : Numbers) (part : Interval) → IsKept top set → part.low ≤ part.high → (encloses set part ≡ true) ↔ Encloses set part
+encloses_exact top set part kept some = (encloses_each set part, encloses_only top set part kept some)
 
--- what is known of a test that a part lies in a set
-pub record Tests (set : Numbers) (part : Interval) (r : Bool) : Type 0 where
-  pub exact : (top : ℕ) → IsKept top set → part.low ≤ part.high → (r ≡ true) ↔ Encloses set part
-
--- a set of one interval lies in another where that interval does
-pub covers_one : (set : Numbers) (all : Interval) (r : Bool) → Tests set all r → (top : ℕ) → IsKept top set → IsKept top (One all) → (r ≡ true) ↔ Covers top set (One all)
-covers_one set all r tests top kept other_kept =
-    let exact = tests.exact top kept other_kept.0 in (
+-- one set lies in another exactly where each of its intervals lies in one of the other's
+pub covers_exact : (top : ℕ) (set other : Numbers) → IsKept top set → IsKept top other → (covers set other ≡ true) ↔ Covers top set other
+covers_exact top set Empty kept other_kept = (λ yes n in_range inner. absurd (false≢true inner), λ h. refl)
+covers_exact top set (One all) kept other_kept =
+    let exact = encloses_exact top set all kept other_kept.0 in (
       λ yes n in_range inner. exact.0 yes n inner,
       λ h. exact.1 (λ n inner. let at = inside_parts all n inner in h n (omega arith) inner),
     )
-
--- a set of two intervals lies in another where both do; the last is tested only where the first does
-pub covers_two : (set : Numbers) (first last : Interval) (r s t : Bool) → t ≡ (r && s) → Tests set first r → (r ≡ true → Tests set last s) → (top : ℕ) → IsKept top set → IsKept top (Two first last) → (t ≡ true) ↔ Covers top set (Two first last)
-covers_two set first last r s t both tests_first tests_last top kept other_kept =
-    let exact_first = tests_first.exact top kept (omega arith) in (
+covers_exact top set (Two first last) kept other_kept =
+    let exact_first = encloses_exact top set first kept (omega arith) in
+    let exact_last = encloses_exact top set last kept (omega arith) in (
       λ yes n in_range inner.
-          let parts = and_parts r s (sym both ∙ yes) in
-          let exact_last = (tests_last parts.0).exact top kept (omega arith) in
+          let parts = and_parts (encloses set first) (encloses set last) yes in
           ⊎_elim (λ at. exact_first.0 parts.0 n at) (λ at. exact_last.0 parts.1 n at) (or_cases _ _ inner),
       λ h.
-          let in_first : r ≡ true = exact_first.1 (λ n inner. let at = inside_parts first n inner in h n (omega arith) (or_left _ _ inner)) in
-          let exact_last = (tests_last in_first).exact top kept (omega arith) in
-          both ∙ and_from r s in_first
+          and_from (encloses set first) (encloses set last)
+          (exact_first.1 (λ n inner. let at = inside_parts first n inner in h n (omega arith) (or_left _ _ inner)))
           (exact_last.1 (λ n inner. let at = inside_parts last n inner in h n (omega arith) (or_right _ _ inner))),
     )
 
@@ -200,3 +182,8 @@ one_form top (One a) (Two f l) kept kept' h back = absurd (one_not_two top a f l
 one_form top (Two f l) Empty kept kept' h back = absurd (not_two top f l kept back)
 one_form top (Two f l) (One b) kept kept' h back = absurd (one_not_two top b f l kept back h)
 one_form top (Two f l) (Two f' l') kept kept' h back = both_twos top f l f' l' kept kept' h back
+
+-- sets of the same numbers are one value
+pub same_numbers : (top : ℕ) (a b : Numbers) → IsKept top a → IsKept top b → SameNumbers top a b → a ≡ b
+same_numbers top a b kept kept' same =
+    one_form top a b kept kept' (λ n in_range inner. same n in_range ∙ inner) (λ n in_range inner. sym (same n in_range) ∙ inner)

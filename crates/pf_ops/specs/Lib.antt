@@ -2,3 +2,4 @@ pub mod Numbers
 pub mod Operator
 pub mod Words
 pub mod WordTable
+pub mod Equal

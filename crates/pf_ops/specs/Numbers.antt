@@ -26,6 +26,26 @@ IsKept top (Two first last) =
 abbrev pub Encloses : Numbers → Interval → Type 0
 Encloses set part = (n : ℕ) → in_interval part n ≡ true → in_numbers set n ≡ true
 
+-- both ends of a part lie between the ends of an interval
+abbrev pub lies_in : Interval → Interval → Bool
+lies_in all part = nat_le all.low part.low && nat_le part.high all.high
+
+-- a part lies in one of the set's intervals
+abbrev pub encloses : Numbers → Interval → Bool
+encloses Empty part = false
+encloses (One all) part = lies_in all part
+encloses (Two first last) part = lies_in first part || lies_in last part
+
+-- each interval of the second set lies in one of the first set's
+abbrev pub covers : Numbers → Numbers → Bool
+covers set Empty = true
+covers set (One all) = encloses set all
+covers set (Two first last) = encloses set first && encloses set last
+
 -- every number up to `top` that is in the second set is in the first
 abbrev pub Covers : ℕ → Numbers → Numbers → Type 0
 Covers top set other = (n : ℕ) → n ≤ top → in_numbers other n ≡ true → in_numbers set n ≡ true
+
+-- the two sets have the same numbers up to `top`
+abbrev pub SameNumbers : ℕ → Numbers → Numbers → Type 0
+SameNumbers top set other = (n : ℕ) → n ≤ top → in_numbers set n ≡ in_numbers other n

@@ -1,6 +1,10 @@
 -- Words of pf.conf(5) that stand for numbers.
-use Rattle.std.specs.Prelude.{ℕ, List, [], ◌∷◌, Option, Some, None, if◌then◌else◌, ◌==◌, codes}
+use Rattle.std.specs.Prelude.{ℕ, Bool, ◌&&◌, not, List, [], ◌∷◌, Option, Some, None, is_some, unwrap_or, if◌then◌else◌, ◌==◌, bit_and, bit_or, codes, filter, fold}
+use Rattle.std.specs.List.{flat_map, list_all}
+use Rattle.std.specs.Option.{option_or}
 use Rattle.std.specs.Str.{bytes_eq}
+use Rattle.pf_base.specs.Decimal.{decimal_of}
+use Rattle.pf_base.specs.Text.{is_nothing}
 use Rattle.pf_base.specs.declared.kind.Family.{Family}
 use Rattle.pf_base.specs.declared.kind.Family.TheVariants.{Inet, Inet6}
 
@@ -85,3 +89,35 @@ tcp_flags =
     ∷ entry (codes "E") 64
     ∷ entry (codes "W") 128
     ∷ []
+
+-- a protocol: a number to 255, where leading zeros may stand, or a name
+abbrev pub proto_of : List ℕ → Option ℕ
+proto_of word = option_or (decimal_of 255 word) (number_of protocols word)
+
+-- a type of the family: a number to 255, where leading zeros may stand, or a name
+abbrev pub icmp_of : Family → List ℕ → Option ℕ
+icmp_of family word = option_or (decimal_of 255 word) (number_of (icmp_types family) word)
+
+-- the bit of a flag's letter
+abbrev pub bit_of : ℕ → Option ℕ
+bit_of letter = number_of tcp_flags (letter ∷ [])
+
+-- the bits of letters together; what is no letter of a flag has none
+abbrev pub bits_of : List ℕ → ℕ
+bits_of letters = fold (λ bits letter. bit_or bits (unwrap_or (bit_of letter) 0)) 0 letters
+
+-- flags: one or more of their letters, in any order
+unfoldable pub flags_of : List ℕ → Option ℕ
+flags_of text = if not (is_nothing text) && list_all (λ letter. is_some (bit_of letter)) text then Some (bits_of text) else None
+
+-- the flag's bit is set
+abbrev pub is_set : ℕ → Entry → Bool
+is_set bits flag = not (bit_and bits flag.number == 0)
+
+-- the letters of the flags that are set, in the order of a table
+abbrev pub letters_in : List Entry → ℕ → List ℕ
+letters_in flags bits = flat_map (λ flag. flag.word) (filter (is_set bits) flags)
+
+-- the letters of the flags that are set, in the order of the bits from the lowest on
+abbrev pub letters_of : ℕ → List ℕ
+letters_of bits = letters_in tcp_flags bits

@@ -5,14 +5,18 @@
 #![tactic(auto)]
 
 pub mod flags;
+pub mod laws;
 pub mod numbers;
 pub mod operator;
 pub mod words;
 
 pub use flags::{IcmpType, TcpFlags};
+pub use laws::{equal_sets_are_one_value, letters_of_flags_read_back};
 pub use numbers::{Interval, Numbers};
 pub use operator::{Op16, Op32, OpKind};
-pub use words::{flag_bit, icmp_number, proto_name, proto_number};
+pub use words::{
+    flag_bit, flag_bits, flags_of, icmp_number, icmp_of, proto_name, proto_number, proto_of, put_flags,
+};
 
 #[cfg(test)]
 mod tests;

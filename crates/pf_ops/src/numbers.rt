@@ -1,9 +1,11 @@
 //! Sets of numbers that are kept as at most two intervals.
-ghost use Rattle.std.specs.Prelude.{◌≡◌, ℕ, ◌≤◌, ◌&&◌, ◌||◌, nat_le, nat_lt, IsTrue, ◌↔◌};
-ghost use Rattle.pf_ops.specs.Numbers.{in_interval, in_numbers, IsKept, Covers, Encloses};
+ghost use Rattle.std.specs.Prelude.{◌≡◌, ℕ, ◌≤◌, ◌&&◌, ◌||◌, nat_le, nat_lt};
+ghost use Rattle.pf_ops.specs.Numbers.{IsKept, covers, encloses, in_interval, in_numbers, lies_in};
+ghost use Rattle.pf_ops.specs.Equal.{intervals, sets};
 ghost use Rattle.pf_ops.specs.Operator.{in_op, IsOperator};
 
 use crate::operator::OpKind;
+use pf_base::Same;
 
 /// The numbers from `low` to `high`, both included.
 #[derive(Clone, Copy, Debug, PartialEq, Eq, PartialOrd, Ord)]
@@ -30,7 +32,7 @@ impl Interval {
 
     /// Whether both ends of the other interval lie between the ends of this one.
     fn encloses(&self, other: &Interval) -> bool
-        ensures { result ≡ (nat_le self.now.low other.now.low && nat_le other.now.high self.now.high) }
+        ensures { result ≡ lies_in self.now other.now }
     {
         self.low <= other.low && other.high <= self.high
     }
@@ -139,10 +141,9 @@ impl Numbers {
         }
     }
 
-    /// Whether the interval, which isn't empty, lies in the set.
+    /// Whether the interval lies in one of the set's.
     fn encloses(&self, part: &Interval) -> bool
-        ensures { (top : ℕ) → IsKept top self.now → part.now.low ≤ part.now.high
-            → (IsTrue result ↔ Encloses self.now part.now) }
+        ensures { result ≡ encloses self.now part.now }
     {
         match self {
             Numbers::Empty => false,
@@ -151,15 +152,37 @@ impl Numbers {
         }
     }
 
-    /// Whether each number of the other set is in this one, where both are kept in the one form.
+    /// Whether each interval of the other set lies in one of this set's.
     pub(crate) fn covers(&self, other: &Numbers) -> bool
-        ensures { (top : ℕ) → IsKept top self.now → IsKept top other.now
-            → (IsTrue result ↔ Covers top self.now other.now) }
+        ensures { result ≡ covers self.now other.now }
     {
         match other {
             Numbers::Empty => true,
             Numbers::One(all) => self.encloses(all),
             Numbers::Two(first, last) => self.encloses(first) && self.encloses(last),
+        }
+    }
+}
+
+impl Same for Interval {
+    ghost equality = { intervals };
+
+    fn same(&self, other: &Interval) -> bool {
+        self.low == other.low && self.high == other.high
+    }
+}
+
+impl Same for Numbers {
+    ghost equality = { sets };
+
+    fn same(&self, other: &Numbers) -> bool {
+        match (self, other) {
+            (Numbers::Empty, Numbers::Empty) => true,
+            (Numbers::One(all), Numbers::One(second)) => all.same(second),
+            (Numbers::Two(low, high), Numbers::Two(first, last)) => {
+                low.same(first) && high.same(last)
+            }
+            _ => false,
         }
     }
 }

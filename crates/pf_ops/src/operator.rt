@@ -1,9 +1,10 @@
 //! The operators on ports, users and groups.
 ghost use Rattle.std.specs.Prelude.{◌≡◌, IsTrue, ◌↔◌};
-ghost use Rattle.pf_ops.specs.Numbers.{in_numbers, IsKept, Covers};
+ghost use Rattle.pf_ops.specs.Numbers.{IsKept, Covers, covers, in_numbers};
 ghost use Rattle.pf_ops.specs.Operator.{IsOperator, set_of};
 
 use crate::numbers::Numbers;
+use pf_base::Same;
 use std::marker::Model;
 
 /// The operators of pf.conf(5), Parameters, `port`, on the numbers a and b (or on a alone).
@@ -68,6 +69,7 @@ impl Op16 {
 
     /// Whether the other set is a subset of this one. Two sets of the same numbers are one value.
     pub fn covers(&self, other: &Op16) -> bool
+        ensures value { result ≡ covers self.now other.now }
         ensures subset { IsTrue result ↔ Covers 65535 self.now other.now }
         ensures one_form { Covers 65535 self.now other.now → Covers 65535 other.now self.now
             → self.now ≡ other.now }
@@ -123,6 +125,7 @@ impl Op32 {
 
     /// Whether the other set is a subset of this one. Two sets of the same numbers are one value.
     pub fn covers(&self, other: &Op32) -> bool
+        ensures value { result ≡ covers self.now other.now }
         ensures subset { IsTrue result ↔ Covers 4294967295 self.now other.now }
         ensures one_form { Covers 4294967295 self.now other.now → Covers 4294967295 other.now self.now
             → self.now ≡ other.now }
@@ -136,5 +139,25 @@ impl Op32 {
         ensures kept { IsKept 4294967295 self.now }
     {
         self.numbers
+    }
+}
+
+impl Same for Op16 {
+    ghost use Rattle.pf_ops.specs.Equal.{sets};
+
+    ghost equality = { sets };
+
+    fn same(&self, other: &Op16) -> bool {
+        self.numbers.same(&other.numbers)
+    }
+}
+
+impl Same for Op32 {
+    ghost use Rattle.pf_ops.specs.Equal.{sets};
+
+    ghost equality = { sets };
+
+    fn same(&self, other: &Op32) -> bool {
+        self.numbers.same(&other.numbers)
     }
 }
