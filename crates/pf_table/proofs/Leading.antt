@@ -8,7 +8,7 @@ use Rattle.pf_addr.specs.declared.addr.Addr.{Addr}
 use Rattle.pf_addr.specs.declared.addr.Addr.TheVariants.{V4, V6}
 use Rattle.pf_addr.specs.declared.prefix.Prefix.{Prefix}
 use Rattle.pf_addr.specs.Addr.{width, number, leading, network, IsAddr}
-use Rattle.pf_addr.proofs.Prefixes.{Prefix-same}
+use Rattle.pf_addr.specs.PrefixOrder.{Prefix-same}
 use Rattle.pf_table.specs.Bits.{side}
 
 -- numbers that agree before their last low bits agree before their last high ones

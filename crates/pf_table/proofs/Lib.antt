@@ -4,3 +4,5 @@ pub mod Covers
 pub mod Grow
 pub mod Grown
 pub mod Ways
+pub mod Signs
+pub mod Same

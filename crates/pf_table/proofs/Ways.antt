@@ -8,7 +8,7 @@ use Rattle.pf_addr.specs.Addr.{width, number, leading, IsAddr}
 use Rattle.pf_table.specs.declared.node.Node.{Node}
 use Rattle.pf_table.specs.Bits.{side, Covers, Above, IsShared, IsFront}
 use Rattle.pf_table.specs.Node.{bare, child}
-use Rattle.pf_addr.proofs.Prefixes.{Prefix-same}
+use Rattle.pf_addr.specs.PrefixOrder.{Prefix-same}
 use Rattle.pf_table.specs.Trie.{IsTrie, HasRoots, LiesBelow, LeadsTo, CanGrow, IsAbsent, IsLast, IsStep, IsDeepest, IsHeldAt, node_at, prefix_at, len_at, grown, root_of, all_inet, all_inet6, both_roots}
 use Rattle.pf_table.proofs.Leading.{leading-none}
 use Rattle.pf_table.proofs.Covers.{covers-itself, covers-trans, covers-joint, above-joint, covers-same, covers-side}

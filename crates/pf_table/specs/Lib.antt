@@ -2,3 +2,4 @@ pub mod Bits
 pub mod Node
 pub mod Trie
 pub mod Table
+pub mod Kept

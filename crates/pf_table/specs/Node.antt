@@ -25,3 +25,7 @@ signed p (Some n) = Some (record { prefix = p; negated = n })
 
 abbrev pub entry_of : Node → Option Entry
 entry_of node = signed node.prefix node.negated
+
+-- the node with this sign
+abbrev pub with_sign : Node → Option Bool → Node
+with_sign node sign = record node { negated = sign }

@@ -8,7 +8,7 @@ use Rattle.std.proofs.Common.{lit≤}
 use Rattle.pf_table.specs.declared.node.Node.{Node}
 use Rattle.pf_table.specs.declared.entry.Entry.{Entry}
 use Rattle.pf_table.specs.Bits.{side, Covers, Above}
-use Rattle.pf_table.specs.Node.{bare, child, with_child, entry_of}
+use Rattle.pf_table.specs.Node.{bare, child, with_child, with_sign, entry_of}
 
 -- all addresses of a family
 abbrev pub all_inet : Prefix
@@ -108,3 +108,28 @@ abbrev pub grown : List Node → ℕ → Prefix → List Node
 grown nodes at key =
     let way = side key.addr (len_at nodes at) in
     slice_set (nodes ++ over nodes key (child (node_at nodes at) way) ∷ []) at (with_child (node_at nodes at) way (length nodes))
+
+-- the nodes with this sign at one of them
+abbrev pub resigned : List Node → ℕ → Option Bool → List Node
+resigned nodes at sign = slice_set nodes at (with_sign (node_at nodes at) sign)
+
+-- the node of the key, or that it has none
+abbrev pub IsFound : List Node → Prefix → Option ℕ → Type 0
+IsFound nodes key None = IsAbsent nodes key
+IsFound nodes key (Some at) = IsHeldAt nodes key at
+
+-- no node of at most so many bits that covers the key has a sign
+pub record NoSign (nodes : List Node) (key : Prefix) (bound : ℕ) : Type 0 where
+  pub none : (j : ℕ) → j < length nodes → Covers (prefix_at nodes j) key → len_at nodes j ≤ bound → (node_at nodes j).negated ≡ None
+
+-- the longest of those that have one has this sign
+pub record HasSign (nodes : List Node) (key : Prefix) (bound : ℕ) (sign : Bool) : Type 0 where
+  pub at : ℕ
+  pub inside : at < length nodes
+  pub covers : Covers (prefix_at nodes at) key
+  pub is : (node_at nodes at).negated ≡ Some sign
+  pub longest : (j : ℕ) → j < length nodes → Covers (prefix_at nodes j) key → len_at nodes j ≤ bound → len_at nodes at < len_at nodes j → (node_at nodes j).negated ≡ None
+
+abbrev pub IsSignOf : List Node → Prefix → ℕ → Option Bool → Type 0
+IsSignOf nodes key bound None = NoSign nodes key bound
+IsSignOf nodes key bound (Some sign) = HasSign nodes key bound sign

@@ -1,6 +1,7 @@
 //! A node of a trie.
 ghost use Rattle.std.specs.Prelude.{◌≡◌, Some, None};
 
+use crate::entry::Entry;
 use pf_addr::Prefix;
 
 // One prefix of a table, or a place where two of them part.
@@ -15,7 +16,7 @@ pub struct Node {
 }
 
 impl Node {
-    ghost use Rattle.pf_table.specs.Node.{child, with_child, bare};
+    ghost use Rattle.pf_table.specs.Node.{child, with_child, bare, entry_of};
 
     // A node with nothing below it.
     pub(crate) fn bare(prefix: Prefix) -> Node
@@ -47,5 +48,13 @@ impl Node {
             node.zero = Some(number);
         }
         node
+    }
+
+    // The entry that it stands for.
+    pub(crate) fn entry(&self) -> Option<Entry>
+        ensures { result ≡ entry_of self.now }
+    {
+        let prefix = self.prefix;
+        self.negated.map(|negated| Entry { prefix, negated })
     }
 }

@@ -1,86 +1,112 @@
 //! A table.
+ghost use Rattle.std.specs.Prelude.{◌≡◌, ◌↔◌, IsTrue, IfOk, OnOk, OnErr, Some};
+ghost use Rattle.std.specs.FinMap as map;
+ghost use Rattle.pf_table.specs.Table.{with_entry, without_entry, entries_of, member};
+
 use crate::entry::Entry;
 use crate::node::Node;
-use crate::trie::{deepest, next, place, root, roots};
+use crate::trie::{find, narrowest, node, planted, set_sign};
 use pf_addr::{Addr, Prefix};
 use pf_base::NoMemory;
 use std::alloc::Global;
+use std::marker::Model;
 
-/// A table of addresses and prefixes with their signs.
+/// A table of addresses and prefixes (pf.conf(5), TABLES). Clauses see the finite map from its prefixes to
+/// their signs, true for a negated one.
 #[derive(Debug, Drop)]
 pub struct Table {
+    // Nodes stay where an entry goes, and serve its prefix again: two at most for each prefix ever added.
     nodes: Vec<Node>,
     len: u64,
 }
 
+impl Model for Table {
+    ghost use Rattle.pf_table.specs.Table.{Signs, signs_code};
+
+    ghost Value = { Signs };
+
+    ghost coded = { signs_code };
+
+    ghost use Rattle.pf_table.specs.Kept.{signs_in, IsKept};
+
+    ghost view = { λ a. signs_in a.nodes.items };
+
+    ghost invariant = { λ a. IsKept a.nodes.items a.len };
+}
+
 impl Table {
-    pub fn new(alloc: Global) -> Table {
+    /// The table without entries.
+    pub fn new(alloc: Global) -> Table
+        ensures { result ≡ map.empty }
+    {
         Table {
             nodes: Vec::new(alloc),
             len: 0,
         }
     }
 
-    pub fn add(&mut self, entry: Entry) -> Result<bool, NoMemory> {
-        if self.nodes.is_empty() {
-            self.nodes = roots(*self.nodes.allocator())?;
-        }
-        let at = place(&mut self.nodes, &entry.prefix)?;
-        let mut node = self.nodes[at];
-        if node.negated.is_some() {
+    /// Adds an entry. False where its prefix is there with either sign, and then nothing changes; nor does
+    /// anything change on `NoMemory`.
+    pub fn add(&mut self, entry: Entry) -> Result<bool, NoMemory>
+        ensures added { IfOk result (λ added. IsTrue added ↔ (map.get self.old entry.prefix ≡ None)) }
+        ensures ok { OnOk result (self.new ≡ with_entry self.old entry) }
+        ensures err { OnErr result (self.new ≡ self.old) }
+    {
+        let at = planted(&mut self.nodes, &entry.prefix)?;
+        if node(&self.nodes, at).negated.is_some() {
             return Ok(false);
         }
-        let len = self.len.checked_add(1).ok_or(NoMemory)?;
-        node.negated = Some(entry.negated);
-        self.nodes[at] = node;
+        let Some(len) = self.len.checked_add(1) else {
+            return Err(NoMemory);
+        };
+        set_sign(&mut self.nodes, at, Some(entry.negated));
         self.len = len;
         Ok(true)
     }
 
-    pub fn remove(&mut self, entry: &Entry) -> bool {
-        if self.nodes.is_empty() {
+    /// Removes the entry of this prefix with this sign, and says whether it was there.
+    pub fn remove(&mut self, entry: &Entry) -> bool
+        ensures removed { IsTrue result ↔ (map.get self.old entry.now.prefix ≡ Some entry.now.negated) }
+        ensures left { self.new ≡ without_entry self.old entry.now }
+    {
+        let Some(at) = find(&self.nodes, &entry.prefix) else {
+            return false;
+        };
+        if node(&self.nodes, at).negated != Some(entry.negated) {
             return false;
         }
-        let at = deepest(&self.nodes, &entry.prefix);
-        let mut node = self.nodes[at];
-        if node.prefix.len != entry.prefix.len || node.negated != Some(entry.negated) {
-            return false;
-        }
-        node.negated = None;
-        self.nodes[at] = node;
+        set_sign(&mut self.nodes, at, None);
         self.len -= 1;
         true
     }
 
-    pub fn lookup(&self, addr: &Addr) -> bool {
+    /// Whether the address is in the table: the longest of the entries that contain it decides by its sign.
+    pub fn lookup(&self, addr: &Addr) -> bool
+        ensures { result ≡ member (entries_of self.now) addr.now }
+    {
         if self.nodes.is_empty() {
             return false;
         }
-        let key = Prefix::of(addr);
-        let mut at = root(addr);
-        let mut found = self.nodes[at].negated;
-        while let Some(below) = next(&self.nodes, at, &key) {
-            at = below;
-            found = self.nodes[at].negated.or(found);
-        }
-        found == Some(false)
+        narrowest(&self.nodes, &Prefix::of(addr)) == Some(false)
     }
 
-    pub fn entries(&self) -> Result<Vec<Entry>, NoMemory> {
-        let mut list = Vec::new(*self.nodes.allocator());
-        for node in &self.nodes {
-            if let Some(negated) = node.negated {
-                list.push(Entry {
-                    prefix: node.prefix,
-                    negated,
-                })?;
-            }
-        }
-        list.sort_unstable_by(|a, b| a.prefix.cmp(&b.prefix));
+    /// Its entries: inet first, then by address, then by length.
+    pub fn entries(&self) -> Result<Vec<Entry>, NoMemory>
+        ensures { IfOk result (λ list. list.items ≡ entries_of self.now) }
+    {
+        let mut list: Vec<Entry> = self
+            .nodes
+            .iter()
+            .filter_map(|node| node.entry())
+            .collect(*self.nodes.allocator())?;
+        list.sort_unstable_by_key(|entry| entry.prefix);
         Ok(list)
     }
 
-    pub fn len(&self) -> u64 {
+    /// The number of its entries.
+    pub fn len(&self) -> u64
+        ensures { result ≡ map.len self.now }
+    {
         self.len
     }
 }

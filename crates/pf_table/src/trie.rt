@@ -4,7 +4,7 @@ ghost use Rattle.std.specs.Prelude.{◌≡◌, ◌<◌, ◌≤◌, ℕ, length, 
 ghost use Rattle.pf_addr.specs.Addr.{IsAddr};
 ghost use Rattle.pf_table.specs.Bits.{Covers, side};
 ghost use Rattle.pf_table.specs.Node.{child};
-ghost use Rattle.pf_table.specs.Trie.{IsTrie, HasRoots, both_roots, root_of, node_at, prefix_at, len_at, over, grown, listed, CanGrow, IsNext, IsDeepest, IsHeldAt};
+ghost use Rattle.pf_table.specs.Trie.{IsTrie, HasRoots, both_roots, root_of, node_at, prefix_at, len_at, over, grown, listed, CanGrow, IsNext, IsDeepest, IsHeldAt, IsFound, IsSignOf, resigned};
 
 use crate::bits::{front, number, shared, side};
 use crate::node::Node;
@@ -165,4 +165,59 @@ pub(crate) fn place(nodes: &mut Vec<Node>, key: &Prefix) -> Result<usize, NoMemo
         Some(below) => fork(nodes, at, below as usize, key)?,
     };
     Ok(place)
+}
+
+// The number of the key's node, put in where it is missing, also into no nodes at all.
+pub(crate) fn planted(nodes: &mut Vec<Node>, key: &Prefix) -> Result<usize, NoMemory>
+    requires { IsTrie nodes.old.items }
+    ensures same { listed nodes.new.items ≡ listed nodes.old.items }
+    ensures trie { IsTrie nodes.new.items }
+    ensures held { IfOk result (IsHeldAt nodes.new.items key.now) }
+{
+    if nodes.is_empty() {
+        *nodes = roots(*nodes.allocator())?;
+    }
+    let at = place(nodes, key)?;
+    Ok(at)
+}
+
+// The number of the key's node.
+pub(crate) fn find(nodes: &[Node], key: &Prefix) -> Option<usize>
+    requires { IsTrie nodes.now }
+    ensures { IsFound nodes.now key.now result }
+{
+    if nodes.is_empty() {
+        return None;
+    }
+    let at = deepest(nodes, key);
+    if node(nodes, at).prefix.len == key.len {
+        Some(at)
+    } else {
+        None
+    }
+}
+
+// Gives a node this sign.
+pub(crate) fn set_sign(nodes: &mut [Node], at: usize, sign: Option<bool>)
+    requires { at < length nodes.old }
+    ensures { nodes.new ≡ resigned nodes.old at sign }
+{
+    let mut changed = *node(nodes, at);
+    changed.negated = sign;
+    nodes[at] = changed;
+}
+
+// The sign of the longest node with one that covers the key.
+pub(crate) fn narrowest(nodes: &[Node], key: &Prefix) -> Option<bool>
+    requires trie { IsTrie nodes.now }
+    requires roots { HasRoots nodes.now }
+    ensures { IsSignOf nodes.now key.now key.now.len result }
+{
+    let mut at = root(&key.addr);
+    let mut found = node(nodes, at).negated;
+    while let Some(below) = next(nodes, at, key) {
+        at = below;
+        found = node(nodes, at).negated.or(found);
+    }
+    found
 }
