@@ -1,9 +1,8 @@
 -- Prefixes that cover each other.
-use Rattle.std.proofs.Common.{◌≡◌, ℕ, ◌+◌, ◌-◌, ◌/◌, ◌^◌, ◌<◌, ◌≤◌, Bool, IsTrue, true, false, refl, sym, ap, ◌∙◌, subst, arith, eq-eqb, nat_le}
+use Rattle.std.proofs.Common.{◌≡◌, ℕ, ◌<◌, ◌≤◌, IsTrue, refl, sym, ◌∙◌, subst, arith, eq-eqb}
 use Rattle.std.proofs.lemmas.Bool.{and_parts, and_from, eqb-true, le-leb, leb-true}
 use Rattle.pf_addr.specs.declared.addr.Addr.{Addr}
 use Rattle.pf_addr.specs.declared.prefix.Prefix.{Prefix}
-use Rattle.pf_addr.specs.Addr.{width, number, leading, IsAddr}
 use Rattle.pf_addr.specs.Prefix.{contains, covers, whole}
 use Rattle.pf_table.specs.Bits.{side, Covers, Above}
 use Rattle.pf_table.proofs.Leading.{leading-fewer, side-same, prefix-same}

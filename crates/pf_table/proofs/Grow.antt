@@ -1,11 +1,11 @@
 -- A node that is put in between keeps the tries.
-use Rattle.std.proofs.Common.{◌≡◌, ◌≢◌, ℕ, ◌+◌, ◌<◌, ◌≤◌, Bool, List, [], ◌∷◌, ◌++◌, length, Option, Some, None, refl, sym, ap, ◌∙◌, subst, arith, inl, inr, ◌⊎◌}
+use Rattle.std.proofs.Common.{◌≡◌, ◌≢◌, ℕ, ◌+◌, ◌<◌, Bool, List, length, Option, Some, refl, sym, ap, ◌∙◌, subst, arith, inl, inr, ◌⊎◌}
 use Rattle.std.proofs.lemmas.Bool.{cases_lt, cases_eq}
 use Rattle.pf_addr.specs.declared.prefix.Prefix.{Prefix}
 use Rattle.pf_table.specs.declared.node.Node.{Node}
 use Rattle.pf_table.specs.Bits.{side, Covers, Above}
 use Rattle.pf_table.specs.Node.{child}
-use Rattle.pf_table.specs.Trie.{IsTrie, HasRoots, LiesBelow, LeadsTo, CanGrow, IsAbsent, node_at, prefix_at, len_at}
+use Rattle.pf_table.specs.Trie.{IsTrie, HasRoots, LiesBelow, LeadsTo, CanGrow, node_at, prefix_at, len_at}
 use Rattle.pf_table.proofs.Bools.{bool_cases}
 use Rattle.pf_table.proofs.Covers.{covers-itself, covers-trans, covers-joint, above-joint, covers-same, covers-side}
 
@@ -154,7 +154,7 @@ module _ (old new : List Node) (at : ℕ) (key : Prefix) (can : CanGrow old at k
       }
 
   last_or_old : (i : ℕ) → i < length new → (i < length old) ⊎ (i ≡ length old)
-  last_or_old i lt = elim (cases_lt i (length old)) [ | inl l ↦ inl l | inr le ↦ inr (let l = g.long in omega arith) ]
+  last_or_old i lt = elim (cases_lt i (length old)) [ inl l ↦ inl l | inr le ↦ inr (let l = g.long in omega arith) ]
 
   roots_kept : HasRoots old → HasRoots new
   roots_kept h = record {
@@ -166,7 +166,7 @@ module _ (old new : List Node) (at : ℕ) (key : Prefix) (can : CanGrow old at k
   pub grows-IsTrie : IsTrie new
   grows-IsTrie = record {
     roots = λ _. roots_kept (can.trie.roots (let a = can.inside in omega arith));
-    links = λ i c b lt e. elim (last_or_old i lt) [ | inl li ↦ links_old i c b li e | inr is ↦ links_new i c b is e ];
+    links = λ i c b lt e. elim (last_or_old i lt) [ inl li ↦ links_old i c b li e | inr is ↦ links_new i c b is e ];
     ways = λ i j li lj h. elim (last_or_old i li) [
       | inl io ↦ elim (last_or_old j lj) [
         | inl jo ↦ ways_old i j io jo h

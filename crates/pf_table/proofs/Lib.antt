@@ -6,3 +6,6 @@ pub mod Grown
 pub mod Ways
 pub mod Signs
 pub mod Same
+pub mod Members
+pub mod Narrow
+pub mod Changes

@@ -1,10 +1,10 @@
 -- Nodes with the same prefixes and the same links are tries together.
-use Rattle.std.proofs.Common.{◌≡◌, ℕ, ◌+◌, ◌<◌, ◌≤◌, Bool, List, length, Some, sym, ap, ◌∙◌, subst, arith}
+use Rattle.std.proofs.Common.{◌≡◌, ℕ, ◌<◌, Bool, List, length, sym, ap, ◌∙◌, subst, arith}
 use Rattle.pf_addr.specs.declared.prefix.Prefix.{Prefix}
 use Rattle.pf_table.specs.declared.node.Node.{Node}
 use Rattle.pf_table.specs.Bits.{side, Covers, Above}
 use Rattle.pf_table.specs.Node.{child}
-use Rattle.pf_table.specs.Trie.{IsTrie, HasRoots, LiesBelow, LeadsTo, node_at, prefix_at, len_at}
+use Rattle.pf_table.specs.Trie.{IsTrie, HasRoots, node_at, prefix_at, len_at}
 
 module _ (old new : List Node) (long : length new ≡ length old) (prefixes : (j : ℕ) → prefix_at new j ≡ prefix_at old j) (links : (j : ℕ) (b : Bool) → child (node_at new j) b ≡ child (node_at old j) b) where
   above_same : (i j : ℕ) → Above (prefix_at new i) (prefix_at new j) → Above (prefix_at old i) (prefix_at old j)

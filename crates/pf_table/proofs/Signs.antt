@@ -1,23 +1,22 @@
 -- What the nodes of the tries say of the table that they stand for.
-use Rattle.std.proofs.Common.{◌≡◌, ◌≢◌, ℕ, zero, suc, ◌+◌, ◌<◌, ◌≤◌, Bool, true, false, List, [], ◌∷◌, ◌++◌, length, Option, Some, None, refl, sym, ap, ◌∙◌, subst, arith, inl, inr, ◌⊎◌, IsTrue, get_or}
+use Rattle.std.proofs.Common.{◌≡◌, ◌≢◌, ℕ, zero, suc, ◌<◌, Bool, true, false, List, [], ◌∷◌, length, Option, Some, None, refl, sym, ap, ◌∙◌, arith, inl, inr, ◌⊎◌}
 use Rattle.std.specs.Prelude.{map, cond}
 use Rattle.std.specs.List.{cons_option}
 use Rattle.std.specs.FinMap as finite
 use Rattle.std.specs.FinMap.{get-from_entries, get-insert, get-remove, same_map, IsAntisymmetric, find}
 use Rattle.std.specs.Ordering.{eq_by_cmp}
-use Rattle.std.specs.declared.cmp.Ordering.TheVariants.{Equal}
-use Rattle.std.proofs.lemmas.Bool.{cases_lt, cases_eq}
+use Rattle.std.proofs.lemmas.Bool.{cases_eq}
 use Rattle.pf_addr.specs.declared.prefix.Prefix.{Prefix}
-use Rattle.pf_addr.specs.PrefixOrder.{prefix_cmp, prefix_cmp-total, prefix_eq, prefix_eq-prefix_cmp, prefixes}
+use Rattle.pf_addr.specs.PrefixOrder.{prefix_cmp, prefix_cmp-total, prefix_eq-prefix_cmp, prefixes}
 use Rattle.pf_addr.proofs.Equal.{prefixes_level}
 use Rattle.pf_table.specs.declared.node.Node.{Node}
 use Rattle.pf_table.specs.declared.entry.Entry.{Entry}
 use Rattle.std.proofs.Common.{get_or-set_same, get_or-set_other}
 use Rattle.std.proofs.Math.ListN.{length-set}
-use Rattle.pf_table.specs.Node.{entry_of, signed, bare, child, with_sign}
+use Rattle.pf_table.specs.Node.{signed, bare, child, with_sign}
 use Rattle.pf_table.specs.Trie.{IsTrie, IsHeldAt, IsAbsent, node_at, prefix_at, listed, all_inet, resigned}
 use Rattle.pf_table.proofs.Same.{same-IsTrie}
-use Rattle.pf_table.specs.Table.{Signs, table_of, paired}
+use Rattle.pf_table.specs.Table.{paired}
 use Rattle.pf_table.specs.Kept.{signs_in}
 
 -- the sign of the first entry of this prefix
@@ -27,7 +26,7 @@ sign_in entries q = find prefix_cmp q (map paired entries)
 same_of_tie : (p q : Prefix) → eq_by_cmp prefix_cmp p q ≡ true → p ≡ q
 same_of_tie p q h = (prefixes.decides p q).0 (prefix_eq-prefix_cmp p q ∙ h)
 
-tie_of_same : (p q : Prefix) → p ≡ q → eq_by_cmp prefix_cmp p q ≡ true
+pub tie_of_same : (p q : Prefix) → p ≡ q → eq_by_cmp prefix_cmp p q ≡ true
 tie_of_same p q e = sym (prefix_eq-prefix_cmp p q) ∙ (prefixes.decides p q).1 e
 
 true_or_false : (b : Bool) → (b ≡ true) ⊎ (b ≡ false)
@@ -44,7 +43,7 @@ same_or_not p q = elim (true_or_false (eq_by_cmp prefix_cmp p q)) [
     not_both : (b : Bool) → b ≡ true → b ≡ false → ⊥
     not_both b t f = cc
 
-antisymmetric : IsAntisymmetric prefix_cmp
+pub antisymmetric : IsAntisymmetric prefix_cmp
 antisymmetric p q e = (prefixes_level p q).0 e
 
 -- the sign in a list that begins with what a node may stand for

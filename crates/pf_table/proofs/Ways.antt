@@ -1,18 +1,17 @@
 -- Steps down a trie toward a key, and where a node of the key has its place.
-use Rattle.std.proofs.Common.{◌≡◌, ◌≢◌, ℕ, ◌+◌, ◌<◌, ◌≤◌, Bool, List, [], ◌∷◌, length, Option, Some, None, refl, sym, ap, ◌∙◌, subst, arith, inl, inr}
-use Rattle.std.proofs.lemmas.Bool.{cases_lt, cases_eq}
+use Rattle.std.proofs.Common.{◌≡◌, ◌≢◌, ℕ, ◌<◌, ◌≤◌, Bool, List, [], ◌∷◌, length, Option, Some, None, refl, sym, ap, ◌∙◌, subst, arith, inl, inr}
+use Rattle.std.proofs.lemmas.Bool.{cases_lt}
 use Rattle.pf_addr.specs.declared.addr.Addr.{Addr}
 use Rattle.pf_addr.specs.declared.addr.Addr.TheVariants.{V4, V6}
 use Rattle.pf_addr.specs.declared.prefix.Prefix.{Prefix}
-use Rattle.pf_addr.specs.Addr.{width, number, leading, IsAddr}
+use Rattle.pf_addr.specs.Addr.{width, leading, IsAddr}
 use Rattle.pf_table.specs.declared.node.Node.{Node}
 use Rattle.pf_table.specs.Bits.{side, Covers, Above, IsShared, IsFront}
 use Rattle.pf_table.specs.Node.{bare, child}
 use Rattle.pf_addr.specs.PrefixOrder.{Prefix-same}
 use Rattle.pf_table.specs.Trie.{IsTrie, HasRoots, LiesBelow, LeadsTo, CanGrow, IsAbsent, IsLast, IsStep, IsDeepest, IsHeldAt, node_at, prefix_at, len_at, grown, root_of, all_inet, all_inet6, both_roots}
 use Rattle.pf_table.proofs.Leading.{leading-none}
-use Rattle.pf_table.proofs.Covers.{covers-itself, covers-trans, covers-joint, above-joint, covers-same, covers-side}
-use Rattle.pf_table.proofs.Grow.{Grows}
+use Rattle.pf_table.proofs.Covers.{covers-itself, covers-trans, above-joint, covers-same, covers-side}
 use Rattle.pf_table.proofs.Grown.{grown-Grows, grown-IsTrie}
 
 some_is : (a b : ℕ) → ◌≡◌ {A = Option ℕ} (Some a) (Some b) → a ≡ b
@@ -211,7 +210,6 @@ module _ (nodes : List Node) (key : Prefix) (at below : ℕ) (trie : IsTrie node
               absurd (s.apart (let a = front.long in omega arith) len_below same);
         }
 
-
 -- what a root is to an address of its family
 record IsRootOf (p : Prefix) (a : Addr) : Type 0 where
   family : width p.addr ≡ width a
@@ -257,3 +255,6 @@ pub grow_below : (nodes xs : List Node) (at : ℕ) (key : Prefix) (node : Node) 
 grow_below nodes xs at key node can e f c link =
     let is : child (node_at nodes at) (side key.addr (len_at nodes at)) ≡ Some c = ap (λ (t : Node). child t (side key.addr t.prefix.len)) (sym e) ∙ link in
     subst (λ (t : List Node). c < length t) (sym f) (below_inside nodes at key can.trie can.inside can.above.over c is)
+
+pub root_short : (nodes : List Node) (a : Addr) → HasRoots nodes → len_at nodes (root_of a) ≡ 0
+root_short nodes a h = let r = root_is nodes h a in r.short

@@ -17,6 +17,7 @@ pub struct Node {
 
 impl Node {
     ghost use Rattle.pf_table.specs.Node.{child, with_child, bare, entry_of};
+    ghost use Rattle.pf_table.specs.Table.{is_sign};
 
     // A node with nothing below it.
     pub(crate) fn bare(prefix: Prefix) -> Node
@@ -56,5 +57,15 @@ impl Node {
     {
         let prefix = self.prefix;
         self.negated.map(|negated| Entry { prefix, negated })
+    }
+
+    // Whether it stands for an entry of this sign.
+    pub(crate) fn has_sign(&self, sign: bool) -> bool
+        ensures { result ≡ is_sign self.now.negated sign }
+    {
+        match self.negated {
+            None => false,
+            Some(found) => found == sign,
+        }
     }
 }

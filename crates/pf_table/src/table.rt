@@ -1,14 +1,18 @@
 //! A table.
 ghost use Rattle.std.specs.Prelude.{◌≡◌, ◌↔◌, IsTrue, IfOk, OnOk, OnErr, Some};
 ghost use Rattle.std.specs.FinMap as map;
-ghost use Rattle.pf_table.specs.Table.{with_entry, without_entry, entries_of, member};
+ghost use Rattle.std.specs.Prelude.{map as list_map};
+ghost use Rattle.std.specs.BTreeMap.{IsOrdered};
+ghost use Rattle.pf_addr.specs.PrefixOrder.{prefix_cmp};
+ghost use Rattle.pf_table.specs.Table.{with_entry, without_entry, entry, entries_of, member};
 
 use crate::entry::Entry;
 use crate::node::Node;
-use crate::trie::{find, narrowest, node, planted, set_sign};
+use crate::trie::{find, narrowest, node, planted, set_sign, signs};
 use pf_addr::{Addr, Prefix};
 use pf_base::NoMemory;
 use std::alloc::Global;
+use std::collections::BTreeMap;
 use std::marker::Model;
 
 /// A table of addresses and prefixes (pf.conf(5), TABLES). Clauses see the finite map from its prefixes to
@@ -72,7 +76,7 @@ impl Table {
         let Some(at) = find(&self.nodes, &entry.prefix) else {
             return false;
         };
-        if node(&self.nodes, at).negated != Some(entry.negated) {
+        if !node(&self.nodes, at).has_sign(entry.negated) {
             return false;
         }
         set_sign(&mut self.nodes, at, None);
@@ -84,22 +88,19 @@ impl Table {
     pub fn lookup(&self, addr: &Addr) -> bool
         ensures { result ≡ member (entries_of self.now) addr.now }
     {
-        if self.nodes.is_empty() {
-            return false;
+        match narrowest(&self.nodes, &Prefix::of(addr)) {
+            Some(negated) => !negated,
+            None => false,
         }
-        narrowest(&self.nodes, &Prefix::of(addr)) == Some(false)
     }
 
     /// Its entries: inet first, then by address, then by length.
     pub fn entries(&self) -> Result<Vec<Entry>, NoMemory>
         ensures { IfOk result (λ list. list.items ≡ entries_of self.now) }
     {
-        let mut list: Vec<Entry> = self
-            .nodes
-            .iter()
-            .filter_map(|node| node.entry())
-            .collect(*self.nodes.allocator())?;
-        list.sort_unstable_by_key(|entry| entry.prefix);
+        let alloc = *self.nodes.allocator();
+        let signs = signs(alloc, &self.nodes)?;
+        let list = in_order(alloc, &signs)?;
         Ok(list)
     }
 
@@ -109,4 +110,19 @@ impl Table {
     {
         self.len
     }
+}
+
+// The entries of a map from prefixes to signs.
+fn in_order(alloc: Global, signs: &BTreeMap<Prefix, bool>) -> Result<Vec<Entry>, NoMemory>
+    ensures list { IfOk result (λ list. list.items ≡ list_map entry signs.now.entries) }
+    ensures ordered { IsOrdered prefix_cmp signs.now }
+{
+    let list = signs
+        .iter()
+        .map(|(prefix, negated)| Entry {
+            prefix: *prefix,
+            negated: *negated,
+        })
+        .collect(alloc)?;
+    Ok(list)
 }

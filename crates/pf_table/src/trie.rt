@@ -4,6 +4,9 @@ ghost use Rattle.std.specs.Prelude.{◌≡◌, ◌<◌, ◌≤◌, ℕ, length, 
 ghost use Rattle.pf_addr.specs.Addr.{IsAddr};
 ghost use Rattle.pf_table.specs.Bits.{Covers, side};
 ghost use Rattle.pf_table.specs.Node.{child};
+ghost use Rattle.pf_base.specs.OrderedMap.{map_of};
+ghost use Rattle.pf_addr.specs.PrefixOrder.{prefix_cmp};
+ghost use Rattle.pf_table.specs.Kept.{signs_in};
 ghost use Rattle.pf_table.specs.Trie.{IsTrie, HasRoots, both_roots, root_of, node_at, prefix_at, len_at, over, grown, listed, CanGrow, IsNext, IsDeepest, IsHeldAt, IsFound, IsSignOf, resigned};
 
 use crate::bits::{front, number, shared, side};
@@ -11,6 +14,7 @@ use crate::node::Node;
 use pf_addr::{Addr, Prefix};
 use pf_base::NoMemory;
 use std::alloc::Global;
+use std::collections::BTreeMap;
 
 // The number of the root of an address's family.
 pub(crate) fn root(addr: &Addr) -> usize
@@ -198,9 +202,9 @@ pub(crate) fn find(nodes: &[Node], key: &Prefix) -> Option<usize>
 }
 
 // Gives a node this sign.
-pub(crate) fn set_sign(nodes: &mut [Node], at: usize, sign: Option<bool>)
-    requires { at < length nodes.old }
-    ensures { nodes.new ≡ resigned nodes.old at sign }
+pub(crate) fn set_sign(nodes: &mut Vec<Node>, at: usize, sign: Option<bool>)
+    requires { at < length nodes.old.items }
+    ensures { nodes.new.items ≡ resigned nodes.old.items at sign }
 {
     let mut changed = *node(nodes, at);
     changed.negated = sign;
@@ -209,10 +213,12 @@ pub(crate) fn set_sign(nodes: &mut [Node], at: usize, sign: Option<bool>)
 
 // The sign of the longest node with one that covers the key.
 pub(crate) fn narrowest(nodes: &[Node], key: &Prefix) -> Option<bool>
-    requires trie { IsTrie nodes.now }
-    requires roots { HasRoots nodes.now }
+    requires { IsTrie nodes.now }
     ensures { IsSignOf nodes.now key.now key.now.len result }
 {
+    if nodes.is_empty() {
+        return None;
+    }
     let mut at = root(&key.addr);
     let mut found = node(nodes, at).negated;
     while let Some(below) = next(nodes, at, key) {
@@ -220,4 +226,18 @@ pub(crate) fn narrowest(nodes: &[Node], key: &Prefix) -> Option<bool>
         found = node(nodes, at).negated.or(found);
     }
     found
+}
+
+// The prefixes of the nodes with their signs, in the order of prefixes.
+pub(crate) fn signs(alloc: Global, nodes: &[Node]) -> Result<BTreeMap<Prefix, bool>, NoMemory>
+    requires { IsTrie nodes.now }
+    ensures { IfOk result (λ signs. map_of prefix_cmp signs ≡ signs_in nodes.now) }
+{
+    let mut signs = BTreeMap::new(alloc);
+    for node in nodes {
+        if let Some(negated) = node.negated {
+            signs.insert(node.prefix, negated)?;
+        }
+    }
+    Ok(signs)
 }

@@ -1,5 +1,4 @@
-use Rattle.std.proofs.Common.{arith, rules, refl, ◌≤◌}
-use Rattle.pf_addr.specs.Addr.{width}
+use Rattle.std.proofs.Common.{arith, refl}
 use Rattle.pf_addr.proofs.Network.{network-width, network-host_bits}
 use Rattle.pf_table.proofs.Leading.{leading-network}
 use Rattle.pf_table.proofs.bits.front.Goals as goal
@@ -10,7 +9,8 @@ network-requires c = let fits = c.args.prefix.now.fits in omega arith
 pub invariant_of-result : goal.invariant_of-result
 invariant_of-result c = record {
   fits = rw (c.network.ensures, network-width c.args.prefix.now.addr c.args.len) (let fits = c.args.prefix.now.fits in omega arith);
-  no_host_bits = rw c.network.ensures (network-host_bits c.args.prefix.now.addr c.args.len) }
+  no_host_bits = rw c.network.ensures (network-host_bits c.args.prefix.now.addr c.args.len);
+}
 
 pub returns : goal.returns
 returns c = record {

@@ -1,8 +1,7 @@
-use Rattle.std.proofs.Common.{arith, rules, refl, ◌<◌, sym, ◌∙◌}
+use Rattle.std.proofs.Common.{arith, ◌<◌, sym, ◌∙◌}
 use Rattle.pf_addr.specs.Addr.{width}
 use Rattle.pf_table.proofs.Leading.{leading-more}
 use Rattle.pf_table.proofs.Bools.{beq-same}
-use Rattle.pf_table.proofs.Grown.{grown-IsTrie}
 use Rattle.pf_table.proofs.bits.shared.Goals as goal
 
 pub loop-len-preserved : goal.loop-len-preserved

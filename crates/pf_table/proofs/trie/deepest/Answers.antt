@@ -1,6 +1,6 @@
-use Rattle.std.proofs.Common.{◌≡◌, ◌<◌, length, sym, ap, ◌∙◌, arith, subst, ℕ}
+use Rattle.std.proofs.Common.{◌<◌, length, sym, subst, ℕ}
 use Rattle.pf_table.specs.Bits.{Covers}
-use Rattle.pf_table.specs.Trie.{prefix_at, root_of}
+use Rattle.pf_table.specs.Trie.{prefix_at}
 use Rattle.pf_table.proofs.Ways.{root_covers, root_inside}
 use Rattle.pf_table.proofs.trie.deepest.Goals as goal
 

@@ -1,4 +1,4 @@
-use Rattle.std.proofs.Common.{◌≡◌, ◌<◌, ◌-◌, length}
+use Rattle.std.proofs.Common.{◌<◌, ◌-◌, length}
 use Rattle.pf_table.specs.Bits.{Covers}
 use Rattle.pf_table.specs.Trie.{prefix_at, len_at}
 use Rattle.pf_table.proofs.trie.deepest.Given as goal

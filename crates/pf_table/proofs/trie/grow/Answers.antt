@@ -1,9 +1,7 @@
-use Rattle.std.proofs.Common.{◌≡◌, ◌<◌, List, length, sym, ap, ◌∙◌, arith, subst, ℕ, Some, rules}
+use Rattle.std.proofs.Common.{◌≡◌, List, length, sym, ap, ◌∙◌, subst, ℕ, rules}
 use Rattle.std.specs.Prelude.{slice_set}
 use Rattle.pf_table.specs.declared.node.Node.{Node}
-use Rattle.pf_table.specs.Bits.{side}
-use Rattle.pf_table.specs.Node.{child}
-use Rattle.pf_table.specs.Trie.{IsTrie, IsHeldAt, LiesBelow, listed, grown}
+use Rattle.pf_table.specs.Trie.{IsTrie, IsHeldAt, listed, grown}
 use Rattle.pf_table.proofs.Ways.{held_grown, grow_below, at_is}
 use Rattle.pf_table.proofs.Grown.{listed-grown, grown-IsTrie}
 use Rattle.pf_table.proofs.trie.grow.Goals as goal

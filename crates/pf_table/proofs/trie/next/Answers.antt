@@ -1,10 +1,6 @@
-use Rattle.std.proofs.Common.{◌≡◌, ◌<◌, Bool, Option, Some, None, length, sym, ap, ◌∙◌, arith, true, false, subst, IsTrue}
-use Rattle.pf_addr.specs.declared.prefix.Prefix.{Prefix}
+use Rattle.std.proofs.Common.{◌≡◌, Bool, sym, ap, ◌∙◌, true, false}
 use Rattle.pf_addr.specs.Prefix.{covers}
 use Rattle.pf_table.specs.declared.node.Node.{Node}
-use Rattle.pf_table.specs.Bits.{Covers, side}
-use Rattle.pf_table.specs.Node.{child}
-use Rattle.pf_table.specs.Trie.{node_at, prefix_at, len_at}
 use Rattle.pf_table.proofs.Covers.{true-covers, covers-true}
 use Rattle.pf_table.proofs.Ways.{last_at_end, last_alone, last_apart, step_to, below_inside, link_is}
 use Rattle.pf_table.proofs.trie.next.Goals as goal
