@@ -1,7 +1,7 @@
 -- One statement after the other.
 use Rattle.std.proofs.Common.{◌≡◌, ℕ, List, [], ◌++◌, Some, Err, ap, sym, ◌∙◌, append_assoc, append-nil, arith}
 use Rattle.pf_source.specs.Told.{FilesTold, Held}
-use Rattle.pf_source.proofs.Asking.{asked_on, nothing_asked}
+use Rattle.pf_source.specs.AskingLaws.{asked_on, nothing_asked}
 use Rattle.pf_source.specs.Disk.{Disk}
 use Rattle.pf_base.specs.declared.fault.Place.{Place}
 use Rattle.pf_token.specs.declared.token.Cause.{Cause}

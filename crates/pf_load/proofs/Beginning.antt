@@ -1,7 +1,7 @@
 -- A load from its beginning: its first file is read, and then the rest of its unit.
 use Rattle.std.proofs.Common.{◌≡◌, ℕ, List, Some, Result, Ok, Err, refl, sym, ap, subst, inl, inr}
 use Rattle.pf_source.specs.Disk.{Disk, without}
-use Rattle.pf_source.proofs.Disks.{is_absent}
+use Rattle.pf_source.specs.DiskLaws.{is_absent}
 use Rattle.pf_token.specs.Macros.{values_of}
 use Rattle.pf_token.specs.declared.cell.Cell.{Cell}
 use Rattle.pf_token.specs.declared.macros.Define.{Define}

@@ -8,7 +8,7 @@ use Rattle.pf_base.specs.declared.fault.Place.{Place}
 use Rattle.pf_source.specs.Asks.{Asks}
 use Rattle.pf_source.specs.Disk.{Disk, without}
 use Rattle.pf_source.specs.Told.{FilesTold}
-use Rattle.pf_source.proofs.Disks.{is_absent}
+use Rattle.pf_source.specs.DiskLaws.{is_absent}
 use Rattle.pf_token.specs.declared.token.Token.{Token}
 use Rattle.pf_lexer.specs.Calls.{AreNumbered, IsGoing, IsTrueTo, StopsWith, unread_from, unread_in}
 use Rattle.pf_lexer.specs.ReadSoFar.{ReadSoFar}

@@ -8,7 +8,7 @@ use Rattle.std.specs.Ordering.{eq_by_cmp}
 use Rattle.std.proofs.lemmas.Bool.{cases_eq}
 use Rattle.pf_addr.specs.declared.prefix.Prefix.{Prefix}
 use Rattle.pf_addr.specs.PrefixOrder.{prefix_cmp, prefix_cmp-total, prefix_eq-prefix_cmp, prefixes}
-use Rattle.pf_addr.proofs.Equal.{prefixes_level}
+use Rattle.pf_addr.specs.EqualLaws.{prefixes_level}
 use Rattle.pf_table.specs.declared.node.Node.{Node}
 use Rattle.pf_table.specs.declared.entry.Entry.{Entry}
 use Rattle.std.proofs.Common.{get_or-set_same, get_or-set_other}

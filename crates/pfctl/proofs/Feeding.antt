@@ -4,7 +4,7 @@ use Rattle.std.specs.List.{filter}
 use Rattle.pf_base.specs.Text.{whole_lines, unfinished, IsOneLine, CutsLine, EndsNoLine}
 use Rattle.pf_source.specs.Told.{SinkTold}
 use Rattle.pf_runs.specs.Runs.{Executes, Stops}
-use Rattle.pf_runs.proofs.RunLemmas.{executes_nothing, executes_on, stops_on, stops_sooner}
+use Rattle.pf_runs.specs.RunLaws.{executes_nothing, executes_on, stops_on, stops_sooner}
 use Rattle.pfctl.specs.declared.session.Session.{Session}
 use Rattle.pfctl.specs.declared.session.Stop.{Stop}
 use Rattle.pfctl.specs.declared.session.Stop.TheVariants as stop

@@ -10,7 +10,7 @@ use Rattle.pf_source.specs.Causes.{RoseBy}
 use Rattle.pf_source.specs.Streams.{after_read, gave_nothing, gave_piece}
 use Rattle.pf_source.specs.Told.{SinkTold, SourceTold}
 use Rattle.pf_source.specs.declared.source.LastRead.{LastRead}
-use Rattle.pf_source.proofs.Known.{Consumes-more, Consumes-nothing, Keeps-is}
+use Rattle.pf_source.specs.KnownLaws.{Consumes-more, Consumes-nothing, Keeps-is}
 use Rattle.pf_runs.specs.Runs.{Executes, Stops}
 use Rattle.pfctl.specs.declared.session.Session.{Session}
 use Rattle.pfctl.specs.declared.session.Stop.{Stop}

@@ -4,10 +4,10 @@ use Rattle.std.specs.Io.KnownBytes.{Appends, Keeps}
 use Rattle.pf_source.specs.Causes.{CountsOn}
 use Rattle.pf_source.specs.Disk.{Disk, without}
 use Rattle.pf_source.specs.Told.{FilesTold, SinkTold}
-use Rattle.pf_source.proofs.Asking.{CountsOn-none, nothing_asked}
-use Rattle.pf_source.proofs.Known.{Keeps-same}
+use Rattle.pf_source.specs.AskingLaws.{CountsOn-none, nothing_asked}
+use Rattle.pf_source.specs.KnownLaws.{Keeps-same}
 use Rattle.pf_runs.specs.Runs.{World, Answers, Executes, Stops, Write_failed, Out_of_memory, pieces_of}
-use Rattle.pf_runs.proofs.RunLemmas.{executes_answered, stops_here}
+use Rattle.pf_runs.specs.RunLaws.{executes_answered, stops_here}
 use Rattle.pfctl.specs.declared.session.Stop.{Stop}
 use Rattle.pfctl.specs.declared.session.Stop.TheVariants as stop
 use Rattle.pfctl.specs.Doing.{DoesAlone, FailsByCount, MayFail, Sends, cause_of}

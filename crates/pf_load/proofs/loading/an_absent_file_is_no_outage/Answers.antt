@@ -1,6 +1,6 @@
 use Rattle.std.proofs.Common.{subst}
 use Rattle.pf_source.specs.Disk.{Disk}
-use Rattle.pf_source.proofs.Disks.{same_disk}
+use Rattle.pf_source.specs.DiskLaws.{same_disk}
 use Rattle.pf_load.specs.Load.{Loads}
 use Rattle.pf_load.proofs.loading.an_absent_file_is_no_outage.Goals as goal
 

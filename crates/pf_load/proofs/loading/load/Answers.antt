@@ -1,6 +1,6 @@
 use Rattle.std.proofs.Common.{◌∙◌}
 use Rattle.pf_source.specs.Told.{file_of}
-use Rattle.pf_source.proofs.Asking.{asked_on}
+use Rattle.pf_source.specs.AskingLaws.{asked_on}
 use Rattle.pf_load.specs.Load.{unread_in_load}
 use Rattle.pf_load.proofs.Beginning.{begins, stops_first}
 use Rattle.pf_load.proofs.loading.load.Goals as goal

@@ -1,6 +1,6 @@
 use Rattle.std.proofs.Common.{[], ◌∷◌, Some, Ok, Err, sym, ap, ◌∙◌, append-nil}
 use Rattle.pf_source.specs.Told.{file_of}
-use Rattle.pf_source.proofs.Asking.{asked_on}
+use Rattle.pf_source.specs.AskingLaws.{asked_on}
 use Rattle.pf_lexer.specs.Calls.{unread_by}
 use Rattle.pf_load.specs.Load.{rules_said}
 use Rattle.pf_load.proofs.Following.{at_end, at_fault, at_faulty, lexer_asks, one_more}

@@ -1,5 +1,5 @@
 use Rattle.std.proofs.Common.{arith, refl}
-use Rattle.pf_addr.proofs.Network.{network-width, network-host_bits}
+use Rattle.pf_addr.specs.NetworkLaws.{network-width, network-host_bits}
 use Rattle.pf_table.proofs.Leading.{leading-network}
 use Rattle.pf_table.proofs.bits.front.Goals as goal
 

@@ -5,10 +5,10 @@ use Rattle.pf_source.specs.Asks.{Asks, StaysHeld}
 use Rattle.pf_source.specs.Causes.{CountsOn}
 use Rattle.pf_source.specs.Disk.{AreAbsent, Disk}
 use Rattle.pf_source.specs.Told.{FilesTold, file_of}
-use Rattle.pf_source.proofs.Asking.{AddsNames-more, CountsOn-more, CountsOn-none, RoseBy-more, nothing_asked}
-use Rattle.pf_source.proofs.Known.{Appends-more, Appends-nothing}
+use Rattle.pf_source.specs.AskingLaws.{AddsNames-more, CountsOn-more, CountsOn-none, RoseBy-more, nothing_asked}
+use Rattle.pf_source.specs.KnownLaws.{Appends-more, Appends-nothing}
 use Rattle.pf_runs.specs.Runs.{Step, Event, Follow, World, Goes, Executes, Stops, StopsAt, Answers, Cause, Write_failed, Out_of_memory, lines_in, reply_text, pieces_of, machine_after, output, count_writes, any_refused, unread}
-use Rattle.pf_runs.proofs.Appended.{machine_after-append, Follow-append, output-append, count_writes-append, unread-append, any_refused-append, lines_in-append, HaveNoOutage-append, or_assoc}
+use Rattle.pf_runs.specs.AppendedLaws.{machine_after-append, Follow-append, output-append, count_writes-append, unread-append, any_refused-append, lines_in-append, HaveNoOutage-append, or_assoc}
 
 pub AreAbsent-append : (disk : Disk) (xs ys : List (List ℕ)) → AreAbsent disk xs → AreAbsent disk ys → AreAbsent disk (xs ++ ys)
 AreAbsent-append disk [] ys h k = k
