@@ -31,8 +31,8 @@ fn put_target(out: &mut Vec<u8>, target: &Target) -> Result<(), NoMemory>
     Ok(())
 }
 
-/// Appends `nat-to` with its address, and its port where one is given, with a space before it. Without memory a
-/// front of it may be appended.
+/// Appends `nat-to` with its address, and its port where one is given, with a space before it. Without memory
+/// what stood in `out` still stands in front.
 pub fn put_nat(out: &mut Vec<u8>, nat: &Option<Target>) -> Result<(), NoMemory>
     ensures ok { OnOk result (out.new.items ≡ out.old.items ++ spaced (option_map nat_text nat.now)) }
     ensures kept { Extends out.old.items out.new.items }
@@ -44,8 +44,8 @@ pub fn put_nat(out: &mut Vec<u8>, nat: &Option<Target>) -> Result<(), NoMemory>
     Ok(())
 }
 
-/// Appends `rdr-to` with its address, and its port where one is given, with a space before it. Without memory a
-/// front of it may be appended.
+/// Appends `rdr-to` with its address, and its port where one is given, with a space before it. Without memory
+/// what stood in `out` still stands in front.
 pub fn put_rdr(out: &mut Vec<u8>, rdr: &Option<Target>) -> Result<(), NoMemory>
     ensures ok { OnOk result (out.new.items ≡ out.old.items ++ spaced (option_map rdr_text rdr.now)) }
     ensures kept { Extends out.old.items out.new.items }
