@@ -215,13 +215,22 @@ static TEXTS: [(&[u8], &[u8]); 69] = [
     (b"include $nope", b"MacroUndefined1nope|"),
     (b"i = include\n$i $hash\n", b"CannotRead x"),
     (b"include 'a b'", b"CannotRead a b"),
-    (b"f", b""),
-    (b"x", b"x1\n\nx3"),
-    (b"y", b"\ninclude x\ny3"),
-    (b"anchor", b"anchor a {\nx2\n"),
-    (b"close", b"}\nx2"),
-    (b"m", b"m = n\n"),
-    (b"brace", b"a {\nb"),
+    (b"a\ninclude k\nb", b"w1a|.w1:1x1|.w1:3x3|.w3b|."),
+    // A file that is included twice has one number.
+    (
+        b"include y\ninclude k",
+        b"w2:1x1|.w2:3x3|.w1:3y3|.w2:1x1|.w2:3x3|.",
+    ),
+    // A body may end in another file.
+    (
+        b"include anchor\nb\ninclude close\nc",
+        b"w1:1anchor|w1:1a|{w1:2x2|.w2b|.s2:1}|.w2:2x2|.w4c|.",
+    ),
+    (b"include m\n$m", b"w2n|."),
+    // A file's end ends a statement.
+    (b"include brace\nc }", b"w1:1a|s1:1{|w1:2b|.w2c|s2}|."),
+    (b"include gone\nb", b"CannotRead gone"),
+    (b"a\ninclude k\n'", b"w1a|.w1:1x1|.w1:3x3|.Unterminated3|"),
 ];
 
 /// Texts that have a piece many times, and their statements.

@@ -1,6 +1,5 @@
 -- Each load comes to something, where each unit has its statements.
-use Rattle.std.proofs.Common.{◌≡◌, ℕ, ◌<◌, List, [], ◌∷◌, length, get_or, Option, Some, None, Result, Ok, Err, refl, sym, ap, ◌∙◌, subst}
-use Rattle.std.specs.Prelude.{slice_get}
+use Rattle.std.proofs.Common.{◌≡◌, ℕ, ◌<◌, List, [], ◌∷◌, length, get_or, Option, Some, Result, Ok, Err, refl, sym, ap, ◌∙◌, subst}
 use Rattle.std.specs.Option.{option_map}
 use Rattle.std.proofs.lemmas.Option.{slice_get-get_or}
 use Rattle.pf_base.specs.declared.fault.FaultKind.{FaultKind}
@@ -10,22 +9,20 @@ use Rattle.pf_source.specs.Disk.{Disk}
 use Rattle.pf_token.specs.Macros.{Table, values_of}
 use Rattle.pf_token.specs.declared.cell.Cell.{Cell}
 use Rattle.pf_token.specs.declared.macros.Define.{Define}
-use Rattle.pf_token.specs.declared.token.Token.{Token}
-use Rattle.pf_lexer.specs.Calls.{AnswersNumbered, AreNumbered, IsGoing, IsKnown, IsNumbered, IsTrueTo, StandsIn}
+use Rattle.pf_lexer.specs.Calls.{AreNumbered, IsGoing, IsKnown, IsNumbered, IsTrueTo, StandsIn}
 use Rattle.pf_lexer.specs.Coming.{HasStatements, LeadsWithin, OpensWithin}
 use Rattle.pf_lexer.specs.ReadSoFar.{ReadSoFar}
 use Rattle.pf_lexer.specs.Stages.{Standing, Stage, going, failed}
-use Rattle.pf_lexer.specs.Units.{Answer, Begins, Handed, Leads, Opens, UnitOf, start_in}
+use Rattle.pf_lexer.specs.Units.{Answer, Handed, Leads, Opens, UnitOf}
 use Rattle.pf_lexer.specs.declared.deed.Statement.{Statement}
 use Rattle.pf_lexer.specs.declared.fault.LexFault.{LexFault}
 use Rattle.pf_lexer.specs.declared.fault.LexFault.TheVariants as lexical
-use Rattle.pf_load.specs.Line.{rule_by, said, said_from}
+use Rattle.pf_load.specs.Line.{rule_by, said}
 use Rattle.pf_load.specs.Load.{HasOutcome, Loads, LoadsOn, Outcome, begun, behind, ends, fault_at, fault_of, fault_said, goes_on, nothing_read, rules_said, unopened}
 use Rattle.pf_load.specs.declared.line.Said.{Said}
 use Rattle.pf_load.specs.declared.line.Said.TheVariants as says
 use Rattle.pf_load.specs.declared.loading.LoadFault.{LoadFault}
 use Rattle.pf_load.specs.declared.loading.LoadFault.TheVariants.{File, NoMemory}
-use Rattle.pf_rule.specs.declared.rule.Rule.{Rule}
 use Rattle.pf_load.proofs.Following.{faulty_numbered}
 
 -- the lexer's laws: what comes stands in the files that have a number

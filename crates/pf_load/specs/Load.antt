@@ -1,5 +1,5 @@
 -- A load: the rules of a file and of the files that it includes, or the first fault (pfctl(8), `-f`).
-use Rattle.std.specs.Prelude.{◌≡◌, ℕ, List, [], ◌∷◌, ◌++◌, Option, Some, None, Result, Ok, Err, length, slice_get}
+use Rattle.std.specs.Prelude.{◌≡◌, ℕ, List, [], ◌∷◌, ◌++◌, Option, Some, None, Result, Ok, Err, slice_get}
 use Rattle.std.specs.Option.{option_map}
 use Rattle.pf_base.specs.declared.fault.FaultKind.{FaultKind}
 use Rattle.pf_base.specs.declared.fault.FaultKind.TheVariants as kinds

@@ -8,8 +8,8 @@ pub mod loading;
 
 pub use line::words_say_what_they_spell;
 pub use loading::{
-    LoadFault, a_load_comes_to_one_thing, a_load_comes_to_something, an_absent_file_is_no_outage, load,
-    no_load_comes_to_want_of_memory,
+    LoadFault, a_load_comes_to_one_thing, a_load_comes_to_something, an_absent_file_is_no_outage,
+    load, no_load_comes_to_want_of_memory,
 };
 
 #[cfg(test)]
