@@ -355,7 +355,7 @@ fn repeated(alloc: Global, byte: u8, count: usize) -> Result<Status, AllocError>
 fn much_input(rt: HostRuntime) -> Result<(), Fail> {
     assert_eq!(rt; repeated(rt.alloc(), b'#', 67_108_864)?, Status::Done);
     assert_eq!(rt;
-        repeated(rt.alloc(), b'#', 67_108_865)?,
+        repeated(rt.alloc(), b'\n', 67_108_865)?,
         Status::TooMuchInput
     );
     Ok(())
