@@ -4,8 +4,7 @@ use Rattle.std.specs.Io.KnownBytes.{Consumes, IsAtEnd, Keeps}
 use Rattle.std.proofs.lemmas.Bool.Decides.{nat_tests}
 use Rattle.std.proofs.lemmas.List.{take-take, take-append-drop, take_all}
 use Rattle.std.proofs.Math.Seq.{take-append_seam}
-use Rattle.pf_base.specs.Text.{whole_lines, unfinished, lines_of, line_of_rest, IsOneLine}
-use Rattle.pf_base.proofs.Lines.{lines_go_on_lem}
+use Rattle.pf_base.specs.Text.{whole_lines, unfinished, lines_of, line_of_rest, IsOneLine, LinesGoOn}
 use Rattle.pf_source.specs.Causes.{RoseBy}
 use Rattle.pf_source.specs.Streams.{after_read, gave_nothing, gave_piece}
 use Rattle.pf_source.specs.Told.{SinkTold, SourceTold}
@@ -18,6 +17,10 @@ use Rattle.pfctl.specs.Doing.{ReadsAll, ReadsPastLimit, ReadsUntilFault, ReadsUn
 use Rattle.pfctl.specs.Input.{Reads, ReadsToLast, last_line, lines_ending_in, most_input, reads_since, test_lines}
 use Rattle.pfctl.specs.Step.{step}
 use Rattle.pfctl.proofs.Feeding.{runs_over_nothing, runs_over_more, test_lines-append}
+
+-- a text that goes on has its lines, and then those of its unfinished line with what follows
+abbrev pub LinesGo : Type 0
+LinesGo = (text more : List ℕ) → LinesGoOn text more
 
 -- more was read
 pub reads_more : (a b c : SourceTold) (xs ys : List ℕ) → Reads a b xs → Consumes b.left c.left ys → c.given ≡ b.given + length ys → Reads a c (xs ++ ys)
@@ -51,8 +54,8 @@ pub record SoFar (first now : Session) (input input' : SourceTold) (old new : Si
   pub later : old.faults ≤ new.faults
   pub input_later : input.faults ≤ input'.faults
 
-pub kept_is_one_line : (first now : Session) (input input' : SourceTold) (old new : SinkTold) (kept : List ℕ) (allowed : ℕ) → SoFar first now input input' old new kept allowed → IsOneLine kept
-kept_is_one_line first now input input' old new kept allowed h = rw h.tail (lines_go_on_lem h.front []).one
+pub kept_is_one_line : LinesGo → (first now : Session) (input input' : SourceTold) (old new : SinkTold) (kept : List ℕ) (allowed : ℕ) → SoFar first now input input' old new kept allowed → IsOneLine kept
+kept_is_one_line go first now input input' old new kept allowed h = rw h.tail (go h.front []).one
 
 pub nothing_so_far : (session : Session) (input : SourceTold) (sink : SinkTold) → SoFar session session input input sink sink [] most_input
 unfolding whole_lines unfinished
@@ -132,18 +135,18 @@ stops_at_last why first now last a b c old mid new kept allowed h consumed given
 })
 
 -- the whole lines of what was read so far with another piece
-joined_lines : (front kept piece : List ℕ) → kept ≡ unfinished front → whole_lines front ++ whole_lines (kept ++ piece) ≡ whole_lines (front ++ piece)
-joined_lines front kept piece tail = ap (λ rest. whole_lines front ++ whole_lines (rest ++ piece)) tail ∙ sym (lines_go_on_lem front piece).whole
+joined_lines : LinesGo → (front kept piece : List ℕ) → kept ≡ unfinished front → whole_lines front ++ whole_lines (kept ++ piece) ≡ whole_lines (front ++ piece)
+joined_lines go front kept piece tail = ap (λ rest. whole_lines front ++ whole_lines (rest ++ piece)) tail ∙ sym (go front piece).whole
 
 -- one more piece
-pub one_piece : (first now last : Session) (a b c : SourceTold) (old mid new : SinkTold) (kept kept' piece : List ℕ) (allowed allowed' : ℕ) → SoFar first now a b old mid kept allowed → Consumes b.left c.left piece → c.given ≡ b.given + length piece → 0 < length piece → c.last ≡ gave_piece (length piece) → b.faults ≤ c.faults → RunsOver now last mid new (whole_lines (kept ++ piece)) → kept' ≡ unfinished (kept ++ piece) → mid.faults ≤ new.faults → allowed' + length piece ≡ allowed → SoFar first last a c old new kept' allowed'
-one_piece first now last a b c old mid new kept kept' piece allowed allowed' h consumed given some is_last faults runs tail later less = record {
+pub one_piece : LinesGo → (first now last : Session) (a b c : SourceTold) (old mid new : SinkTold) (kept kept' piece : List ℕ) (allowed allowed' : ℕ) → SoFar first now a b old mid kept allowed → Consumes b.left c.left piece → c.given ≡ b.given + length piece → 0 < length piece → c.last ≡ gave_piece (length piece) → b.faults ≤ c.faults → RunsOver now last mid new (whole_lines (kept ++ piece)) → kept' ≡ unfinished (kept ++ piece) → mid.faults ≤ new.faults → allowed' + length piece ≡ allowed → SoFar first last a c old new kept' allowed'
+one_piece go first now last a b c old mid new kept kept' piece allowed allowed' h consumed given some is_last faults runs tail later less = record {
   front = h.front ++ piece;
   reads = reads_more a b c h.front piece h.reads consumed given;
   since = ap (λ (l : LastRead). l.since) is_last ∙ sym (none_since a.last h.front piece some);
-  tail = tail ∙ (ap (λ rest. unfinished (rest ++ piece)) h.tail ∙ sym (lines_go_on_lem h.front piece).behind);
+  tail = tail ∙ (ap (λ rest. unfinished (rest ++ piece)) h.tail ∙ sym (go h.front piece).behind);
   left = let left = h.left in rw (length-append h.front piece) (omega arith);
-  runs = subst (λ (ls : List (List ℕ)). RunsOver first last old new ls) (joined_lines h.front kept piece h.tail) (runs_over_more first now last old mid new (whole_lines h.front) (whole_lines (kept ++ piece)) h.runs runs);
+  runs = subst (λ (ls : List (List ℕ)). RunsOver first last old new ls) (joined_lines go h.front kept piece h.tail) (runs_over_more first now last old mid new (whole_lines h.front) (whole_lines (kept ++ piece)) h.runs runs);
   later = let before = h.later in omega arith;
   input_later = let before = h.input_later in omega arith;
 }
@@ -183,10 +186,10 @@ front_within front piece used more allowed left parts long =
     ap (take most_input) whole ∙ (ap (λ n. take n ((front ++ used) ++ more)) (sym most) ∙ take-append_seam (front ++ used) more)
 
 -- more was read than the limit
-pub ends_past_limit : (first now last : Session) (a b c : SourceTold) (old mid new : SinkTold) (kept piece used more : List ℕ) (allowed : ℕ) → SoFar first now a b old mid kept allowed → Consumes b.left c.left piece → c.given ≡ b.given + length piece → c.last ≡ gave_piece (length piece) → piece ≡ used ++ more → length used ≡ allowed → 0 < length more → RunsOver now last mid new (whole_lines (kept ++ used)) → ReadsPastLimit a c (RunsOver first last old new)
-ends_past_limit first now last a b c old mid new kept piece used more allowed h consumed given is_last parts long some runs =
+pub ends_past_limit : LinesGo → (first now last : Session) (a b c : SourceTold) (old mid new : SinkTold) (kept piece used more : List ℕ) (allowed : ℕ) → SoFar first now a b old mid kept allowed → Consumes b.left c.left piece → c.given ≡ b.given + length piece → c.last ≡ gave_piece (length piece) → piece ≡ used ++ more → length used ≡ allowed → 0 < length more → RunsOver now last mid new (whole_lines (kept ++ used)) → ReadsPastLimit a c (RunsOver first last old new)
+ends_past_limit go first now last a b c old mid new kept piece used more allowed h consumed given is_last parts long some runs =
     let here : RunsOver first last old new (whole_lines (h.front ++ used)) =
-    subst (λ (ls : List (List ℕ)). RunsOver first last old new ls) (joined_lines h.front kept used h.tail) (runs_over_more first now last old mid new (whole_lines h.front) (whole_lines (kept ++ used)) h.runs runs) in
+    subst (λ (ls : List (List ℕ)). RunsOver first last old new ls) (joined_lines go h.front kept used h.tail) (runs_over_more first now last old mid new (whole_lines h.front) (whole_lines (kept ++ used)) h.runs runs) in
     let most : length (h.front ++ used) ≡ most_input = let left = h.left in rw (length-append h.front used) (omega arith) in
     let whole : h.front ++ piece ≡ (h.front ++ used) ++ more = ap (λ rest. h.front ++ rest) parts ∙ sym (append_assoc h.front used more) in
     let front : take most_input (h.front ++ piece) ≡ h.front ++ used = front_within h.front piece used more allowed h.left parts long in

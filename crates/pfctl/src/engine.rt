@@ -14,7 +14,7 @@ use crate::replies::{
     reply_answer, reply_bad_command, reply_bad_packet, reply_cannot_read, reply_load_fault,
     reply_loaded,
 };
-use pf_base::text::is_blank_byte;
+use pf_base::text::{cut_laws, is_blank_byte};
 use pf_base::{List, NoMemory, Steps, Text};
 use pf_load::{
     LoadFault, a_load_comes_to_one_thing, a_load_comes_to_something, an_absent_file_is_no_outage,
@@ -206,6 +206,7 @@ impl Engine {
         ensures unchanged { OnErr result (self.new ≡ self.old) }
         ensures refused { result ≡ Ok Outcome.Refused → self.new ≡ self.old }
     {
+        cut_laws();
         let Some(word) = define else {
             return self.load_with(alloc, files, &[], file, reply);
         };

@@ -11,7 +11,7 @@ ghost use Rattle.pfctl.specs.Input.{says_something, test_lines};
 ghost use Rattle.pfctl.specs.Program.{is_file_word, is_word, load_line};
 
 use crate::engine::Engine;
-use pf_base::text::split_line;
+use pf_base::text::{lines_go_on, split_line};
 use pf_base::{NoMemory, Text};
 use pf_source::{Files, Sink, SinkFault, Source};
 use std::alloc::{AllocError, Global};
@@ -176,6 +176,7 @@ impl Session {
         ensures ends { EndsInput self.old self.new (S.tells input.old) (S.tells input.new) (W.tells out.old) (W.tells out.new) result }
         ensures causes { FailsByCount (W.tells out.old) (W.tells out.new) result }
     {
+        lines_go_on();
         let mut chunk = [0u8; CHUNK];
         let mut kept = Vec::new(alloc);
         let mut allowed = MOST_INPUT;

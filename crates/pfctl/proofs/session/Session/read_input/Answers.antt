@@ -26,7 +26,7 @@ returns-then-count-eq0-clause-ends g c =
     (rw none at c.in-Ok.ensures.bytes) (rw none at c.in-Ok.ensures.given) (rw none at c.in-Ok.ensures.last) (c.in-Ok.ensures.end none (omega arith)) (rw c.as_slice.ensures.value at c.in_ok-test.ensures.runs)
 
 pub feed-requires : goal.feed-requires
-feed-requires g c = kept_is_one_line c.args.self.now c.loop-count.self (g.S.Source.tells c.args.input.now) (g.S.Source.tells c.loop-count.input) (g.W.Sink.tells c.args.out.now) (g.W.Sink.tells c.loop-count.out) c.loop-count.kept.items c.loop-count.allowed c.loop-count.invariant
+feed-requires g c = kept_is_one_line c.lines_go_on.ensures c.args.self.now c.loop-count.self (g.S.Source.tells c.args.input.now) (g.S.Source.tells c.loop-count.input) (g.W.Sink.tells c.args.out.now) (g.W.Sink.tells c.loop-count.out) c.loop-count.kept.items c.loop-count.allowed c.loop-count.invariant
 
 pub returns-in_err-feed-clause-ends : goal.returns-in_err-feed-clause-ends
 returns-in_err-feed-clause-ends g c =
@@ -40,11 +40,11 @@ pub returns-then-count-allowed-clause-ends : goal.returns-then-count-allowed-cla
 returns-then-count-allowed-clause-ends g c =
     let buf = c.read.new.buf in
     let long : length (take c.in-Ok.count buf) ≡ c.in-Ok.count = length-take-le c.in-Ok.count buf (omega (arith, c.in-Ok.ensures.within)) in
-    ends_past_limit c.args.self.now c.loop-count.self c.feed.new.self (g.S.Source.tells c.args.input.now) (g.S.Source.tells c.loop-count.input) (g.S.Source.tells c.read.new.self) (g.W.Sink.tells c.args.out.now) (g.W.Sink.tells c.loop-count.out) (g.W.Sink.tells c.feed.new.out) c.loop-count.kept.items (take c.in-Ok.count buf) (take c.loop-count.allowed buf) (drop c.loop-count.allowed (take c.in-Ok.count buf)) c.loop-count.allowed c.loop-count.invariant
+    ends_past_limit c.lines_go_on.ensures c.args.self.now c.loop-count.self c.feed.new.self (g.S.Source.tells c.args.input.now) (g.S.Source.tells c.loop-count.input) (g.S.Source.tells c.read.new.self) (g.W.Sink.tells c.args.out.now) (g.W.Sink.tells c.loop-count.out) (g.W.Sink.tells c.feed.new.out) c.loop-count.kept.items (take c.in-Ok.count buf) (take c.loop-count.allowed buf) (drop c.loop-count.allowed (take c.in-Ok.count buf)) c.loop-count.allowed c.loop-count.invariant
     c.in-Ok.ensures.bytes (rw long c.in-Ok.ensures.given) (rw long (c.in-Ok.ensures.last ∙ gave (g.S.Source.tells c.loop-count.input).last c.in-Ok.count (omega arith))) (first_of_piece buf c.in-Ok.count c.loop-count.allowed (omega arith)) (length-take-le c.loop-count.allowed buf (omega (arith, c.in-Ok.ensures.within))) (rw (length-drop c.loop-count.allowed (take c.in-Ok.count buf), long) (omega arith)) c.in_ok-feed.ensures.runs
 
 pub feed-requires-in-loop-count : goal.feed-requires-in-loop-count
-feed-requires-in-loop-count g c = kept_is_one_line c.args.self.now c.loop-count.self (g.S.Source.tells c.args.input.now) (g.S.Source.tells c.loop-count.input) (g.W.Sink.tells c.args.out.now) (g.W.Sink.tells c.loop-count.out) c.loop-count.kept.items c.loop-count.allowed c.loop-count.invariant
+feed-requires-in-loop-count g c = kept_is_one_line c.lines_go_on.ensures c.args.self.now c.loop-count.self (g.S.Source.tells c.args.input.now) (g.S.Source.tells c.loop-count.input) (g.W.Sink.tells c.args.out.now) (g.W.Sink.tells c.loop-count.out) c.loop-count.kept.items c.loop-count.allowed c.loop-count.invariant
 
 pub returns-in_err-feed-2-clause-ends : goal.returns-in_err-feed-2-clause-ends
 returns-in_err-feed-2-clause-ends g c =
@@ -59,5 +59,5 @@ pub loop-count-preserved : goal.loop-count-preserved
 loop-count-preserved g c =
     let buf = c.read.new.buf in
     let long : length (take c.in-Ok.count buf) ≡ c.in-Ok.count = length-take-le c.in-Ok.count buf (omega (arith, c.in-Ok.ensures.within)) in
-    one_piece c.args.self.now c.loop-count.self c.feed-in-loop-count.new.self (g.S.Source.tells c.args.input.now) (g.S.Source.tells c.loop-count.input) (g.S.Source.tells c.read.new.self) (g.W.Sink.tells c.args.out.now) (g.W.Sink.tells c.loop-count.out) (g.W.Sink.tells c.feed-in-loop-count.new.out) c.loop-count.kept.items c.feed-in-loop-count.new.kept.items (take c.in-Ok.count buf) c.loop-count.allowed (c.loop-count.allowed - c.in-Ok.count) c.loop-count.invariant
+    one_piece c.lines_go_on.ensures c.args.self.now c.loop-count.self c.feed-in-loop-count.new.self (g.S.Source.tells c.args.input.now) (g.S.Source.tells c.loop-count.input) (g.S.Source.tells c.read.new.self) (g.W.Sink.tells c.args.out.now) (g.W.Sink.tells c.loop-count.out) (g.W.Sink.tells c.feed-in-loop-count.new.out) c.loop-count.kept.items c.feed-in-loop-count.new.kept.items (take c.in-Ok.count buf) c.loop-count.allowed (c.loop-count.allowed - c.in-Ok.count) c.loop-count.invariant
     c.in-Ok.ensures.bytes (rw long c.in-Ok.ensures.given) (rw long (omega arith)) (rw long (c.in-Ok.ensures.last ∙ gave (g.S.Source.tells c.loop-count.input).last c.in-Ok.count (omega arith))) c.in-Ok.ensures.faults.later c.in_ok-feed-2.ensures.runs c.in_ok-feed-2.ensures.kept c.in_ok-feed-2.ensures.causes (rw long (omega arith))
