@@ -1,6 +1,5 @@
 -- A table computed by its definition.
-use Rattle.std.proofs.Common.{◌≡◌, Bool, true, false, List, [], ◌∷◌, refl, lit≤}
-use Rattle.pf_addr.specs.declared.addr.Addr.{Addr}
+use Rattle.std.proofs.Common.{◌≡◌, true, false, [], ◌∷◌, refl, lit≤}
 use Rattle.pf_addr.specs.declared.addr.Addr.TheVariants.{V4, V6}
 use Rattle.pf_table.specs.declared.entry.Entry.{Entry}
 use Rattle.pf_table.specs.Table.{member}
