@@ -9,3 +9,5 @@ pub mod Same
 pub mod Members
 pub mod Narrow
 pub mod Changes
+pub mod Narrowest
+mod Examples

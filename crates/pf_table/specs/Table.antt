@@ -1,5 +1,5 @@
 -- What a table holds, and what it answers (pf.conf(5), TABLES).
-use Rattle.std.specs.Prelude.{◌≡◌, ℕ, Bool, false, not, List, [], ◌∷◌, map, Option, Some, None, nat_lt, is_some, if◌then◌else◌}
+use Rattle.std.specs.Prelude.{Contains, IsTrue, ◌≤◌, ◌≡◌, ℕ, Bool, false, not, List, [], ◌∷◌, map, Option, Some, None, nat_lt, is_some, if◌then◌else◌}
 use Rattle.std.specs.Option.{option_map_or}
 use Rattle.std.specs.FinMap as finite
 use Rattle.pf_addr.specs.declared.addr.Addr.{Addr}
@@ -71,6 +71,12 @@ narrower e (Some f) = if nat_lt e.prefix.len f.prefix.len then f else e
 abbrev pub narrowest : List Entry → Addr → Option Entry
 narrowest [] a = None
 narrowest (e ∷ rest) a = if contains e.prefix a then Some (narrower e (narrowest rest a)) else narrowest rest a
+
+-- it is one of them, contains the address, and no other that contains it is longer
+pub record IsNarrowest (entries : List Entry) (a : Addr) (e : Entry) : Type 0 where
+  pub among : Contains entries e
+  pub inside : IsTrue (contains e.prefix a)
+  pub longest : (f : Entry) → Contains entries f → IsTrue (contains f.prefix a) → f.prefix.len ≤ e.prefix.len
 
 -- its sign decides, and where there is none the address is not in the table
 abbrev pub member : List Entry → Addr → Bool

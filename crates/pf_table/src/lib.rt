@@ -3,14 +3,14 @@
 //! to their signs, and use that a look-up is decided by the longest entry that contains the address.
 #![tactic(auto)]
 
-pub mod bits;
+mod bits;
 pub mod entry;
 mod node;
 pub mod table;
 mod trie;
 
 pub use entry::Entry;
-pub use table::Table;
+pub use table::{Table, the_longest_decides};
 
 #[cfg(test)]
 mod tests;

@@ -1,10 +1,14 @@
 //! A table.
 ghost use Rattle.std.specs.Prelude.{◌≡◌, ◌↔◌, IsTrue, IfOk, OnOk, OnErr, Some};
+ghost use Rattle.std.specs.Prelude.{List, None, Contains};
 ghost use Rattle.std.specs.FinMap as map;
+ghost use Rattle.pf_addr.specs.declared.addr.Addr.{Addr as Address};
+ghost use Rattle.pf_addr.specs.Prefix.{contains};
+ghost use Rattle.pf_table.specs.declared.entry.Entry.{Entry as OneEntry};
 ghost use Rattle.std.specs.Prelude.{map as list_map};
 ghost use Rattle.std.specs.BTreeMap.{IsOrdered};
 ghost use Rattle.pf_addr.specs.PrefixOrder.{prefix_cmp};
-ghost use Rattle.pf_table.specs.Table.{with_entry, without_entry, entry, entries_of, member};
+ghost use Rattle.pf_table.specs.Table.{with_entry, without_entry, entry, entries_of, narrowest, member, IsNarrowest};
 
 use crate::entry::Entry;
 use crate::node::Node;
@@ -126,3 +130,10 @@ fn in_order(alloc: Global, signs: &BTreeMap<Prefix, bool>) -> Result<Vec<Entry>,
         .collect(alloc)?;
     Ok(list)
 }
+
+/// A law: what is found as the longest of the entries that contain an address is that, and nothing is found
+/// only where none contains it.
+pub fn the_longest_decides()
+    ensures found { (entries : List OneEntry) (a : Address) (e : OneEntry) → narrowest entries a ≡ Some e → IsNarrowest entries a e }
+    ensures none { (entries : List OneEntry) (a : Address) (e : OneEntry) → narrowest entries a ≡ None → Contains entries e → IsTrue (contains e.prefix a) → ⊥ }
+{}
