@@ -49,7 +49,7 @@ unfolding is_written_name
 written_is_path_name name h = back (nat_lt 0 (length name) && nat_le (length name) 63) (is_path_name name) (front (nat_lt 0 (length name) && nat_le (length name) 63 && is_path_name name) true h)
 
 -- a path on which a name stands behind another has room for the name
-fits_here : (path at : List (List ℕ)) (name : List ℕ) → name_behind path at ≡ Some name → IsPath at → child_path path name ≡ Some (path ++ name ∷ [])
+pub fits_here : (path at : List (List ℕ)) (name : List ℕ) → name_behind path at ≡ Some name → IsPath at → child_path path name ≡ Some (path ++ name ∷ [])
 unfolding child_path
 fits_here path at name h is =
     let less = longer path at name h in
@@ -66,11 +66,14 @@ fits_in path name [] paths h = absurd (true≢false (sym h))
 fits_in path name (at ∷ ats) paths h = each (fits_in path name ats (λ q one. paths q (or_right (eq_by_cmp path_cmp q at) (list_any (eq_by_cmp path_cmp q) ats) one))) (name_behind path at) refl h where
   others : List (List ℕ)
   others = filter_map (name_behind path) ats
+
   is_path : IsPath at
   is_path = paths at (ap (λ b. b || list_any (eq_by_cmp path_cmp at) ats) (same_path at))
+
   named : (list_any (eq_by_cmp name_cmp name) others ≡ true → child_path path name ≡ Some (path ++ name ∷ [])) → (next : List ℕ) → name_behind path at ≡ Some next → (b : Bool) → eq_by_cmp name_cmp name next ≡ b → (b || list_any (eq_by_cmp name_cmp name) others) ≡ true → child_path path name ≡ Some (path ++ name ∷ [])
   named rest next is true same h = fits_here path at name (is ∙ ap (λ n. Some n) (sym (is_true_eq name next same))) is_path
   named rest next is false same h = rest h
+
   each : (list_any (eq_by_cmp name_cmp name) others ≡ true → child_path path name ≡ Some (path ++ name ∷ [])) → (o : Option (List ℕ)) → name_behind path at ≡ o → list_any (eq_by_cmp name_cmp name) (cons_option o others) ≡ true → child_path path name ≡ Some (path ++ name ∷ [])
   each rest None is h = rest h
   each rest (Some next) is h = named rest next is (eq_by_cmp name_cmp name next) refl h

@@ -55,7 +55,7 @@ ordered names h =
     ∙ fin.entries-from_sorted name_cmp (marked names) sorted)
     ∙ names_of_marked names
 
-map-append : {A C : Type 0} (f : A → C) (xs ys : List A) → map f (xs ++ ys) ≡ map f xs ++ map f ys
+pub map-append : {A C : Type 0} (f : A → C) (xs ys : List A) → map f (xs ++ ys) ≡ map f xs ++ map f ys
 map-append f [] ys = refl
 map-append f (x ∷ xs) ys = ap (λ l. f x ∷ l) (map-append f xs ys)
 
@@ -67,7 +67,7 @@ filter_map-append : {A C : Type 0} (f : A → Option C) (xs ys : List A) → fil
 filter_map-append f [] ys = refl
 filter_map-append f (x ∷ xs) ys = ap (cons_option (f x)) (filter_map-append f xs ys) ∙ cons_append (f x) (filter_map f xs) (filter_map f ys)
 
-append_none : {A : Type 0} (xs : List A) → xs ++ [] ≡ xs
+pub append_none : {A : Type 0} (xs : List A) → xs ++ [] ≡ xs
 append_none [] = refl
 append_none (x ∷ xs) = ap (λ l. x ∷ l) (append_none xs)
 
@@ -146,20 +146,21 @@ module _ {X V : Type 0} (map_of : V → FinMap path_cmp X) where
         | false ↦ λ out is. skip e es name out (find_live p es before name v after is bare full)
         | true ↦ λ passes is. each e es name v after passes before is bare full (λ rest is bare. find_live p es rest name v after is bare full)
       ] refl is where
-    skip : (e : List ℕ × V) (es : List (List ℕ × V)) (name : List ℕ) → p e.0 ≡ false → find p (live es) ≡ Some name → find p (live (e ∷ es)) ≡ Some name
-    skip e es name out rest = elim (fin.len (map_of e.1) == 0) as (λ b. find p (cond b (live es) (e.0 ∷ live es)) ≡ Some name) [ true ↦ rest | false ↦ rw out rest ]
-    each : (e : List ℕ × V) (es : List (List ℕ × V)) (name : List ℕ) (v : V) (after : List (List ℕ × V)) → p e.0 ≡ true → (before : List (List ℕ × V)) → e ∷ filter (λ e. p e.0) es ≡ before ++ (name, v) ∷ after → list_all (λ e. fin.len (map_of e.1) == 0) before ≡ true → (fin.len (map_of v) == 0) ≡ false → ((rest : List (List ℕ × V)) → filter (λ e. p e.0) es ≡ rest ++ (name, v) ∷ after → list_all (λ e. fin.len (map_of e.1) == 0) rest ≡ true → find p (live es) ≡ Some name) → find p (live (e ∷ es)) ≡ Some name
-    each e es name v after passes [] is bare full rest =
-        let here : e ≡ (name, v) = cc in
-        let busy : (fin.len (map_of e.1) == 0) ≡ false = ap (λ x. fin.len (map_of x.1) == 0) here ∙ full in
-        ap (λ b. find p (cond b (live es) (e.0 ∷ live es))) busy ∙ ap (λ b. cond b (Some e.0) (find p (live es))) passes ∙ ap (λ x. Some x.0) here
-    each e es name v after passes (w ∷ before) is bare full rest =
-        let here : e ≡ w = cc in
-        let tail : filter (λ e. p e.0) es ≡ before ++ (name, v) ∷ after = cc in
-        elim (fin.len (map_of w.1) == 0) as (λ b. (fin.len (map_of w.1) == 0) ≡ b → (b && list_all (λ e. fin.len (map_of e.1) == 0) before) ≡ true → find p (live (e ∷ es)) ≡ Some name) [
-          | true ↦ λ idle bare. ap (λ b. find p (cond b (live es) (e.0 ∷ live es))) (ap (λ x. fin.len (map_of x.1) == 0) here ∙ idle) ∙ rest before tail bare
-          | false ↦ λ idle bare. absurd (true≢false (sym bare))
-        ] refl bare
+        skip : (e : List ℕ × V) (es : List (List ℕ × V)) (name : List ℕ) → p e.0 ≡ false → find p (live es) ≡ Some name → find p (live (e ∷ es)) ≡ Some name
+        skip e es name out rest = elim (fin.len (map_of e.1) == 0) as (λ b. find p (cond b (live es) (e.0 ∷ live es)) ≡ Some name) [ true ↦ rest | false ↦ rw out rest ]
+
+        each : (e : List ℕ × V) (es : List (List ℕ × V)) (name : List ℕ) (v : V) (after : List (List ℕ × V)) → p e.0 ≡ true → (before : List (List ℕ × V)) → e ∷ filter (λ e. p e.0) es ≡ before ++ (name, v) ∷ after → list_all (λ e. fin.len (map_of e.1) == 0) before ≡ true → (fin.len (map_of v) == 0) ≡ false → ((rest : List (List ℕ × V)) → filter (λ e. p e.0) es ≡ rest ++ (name, v) ∷ after → list_all (λ e. fin.len (map_of e.1) == 0) rest ≡ true → find p (live es) ≡ Some name) → find p (live (e ∷ es)) ≡ Some name
+        each e es name v after passes [] is bare full rest =
+            let here : e ≡ (name, v) = cc in
+            let busy : (fin.len (map_of e.1) == 0) ≡ false = ap (λ x. fin.len (map_of x.1) == 0) here ∙ full in
+            ap (λ b. find p (cond b (live es) (e.0 ∷ live es))) busy ∙ ap (λ b. cond b (Some e.0) (find p (live es))) passes ∙ ap (λ x. Some x.0) here
+        each e es name v after passes (w ∷ before) is bare full rest =
+            let here : e ≡ w = cc in
+            let tail : filter (λ e. p e.0) es ≡ before ++ (name, v) ∷ after = cc in
+            elim (fin.len (map_of w.1) == 0) as (λ b. (fin.len (map_of w.1) == 0) ≡ b → (b && list_all (λ e. fin.len (map_of e.1) == 0) before) ≡ true → find p (live (e ∷ es)) ≡ Some name) [
+              | true ↦ λ idle bare. ap (λ b. find p (cond b (live es) (e.0 ∷ live es))) (ap (λ x. fin.len (map_of x.1) == 0) here ∙ idle) ∙ rest before tail bare
+              | false ↦ λ idle bare. absurd (true≢false (sym bare))
+            ] refl bare
 
   pub find_none : (p : List ℕ → Bool) (es : List (List ℕ × V)) → list_all (λ e. fin.len (map_of e.1) == 0) (filter (λ e. p e.0) es) ≡ true → find p (live es) ≡ None
   find_none p [] h = refl
@@ -168,11 +169,12 @@ module _ {X V : Type 0} (map_of : V → FinMap path_cmp X) where
         | false ↦ λ out h. skip e es out (find_none p es h)
         | true ↦ λ passes h. each e es (find_none p es) (fin.len (map_of e.1) == 0) refl h
       ] refl h where
-    skip : (e : List ℕ × V) (es : List (List ℕ × V)) → p e.0 ≡ false → find p (live es) ≡ None → find p (live (e ∷ es)) ≡ None
-    skip e es out rest = elim (fin.len (map_of e.1) == 0) as (λ b. find p (cond b (live es) (e.0 ∷ live es)) ≡ None) [ true ↦ rest | false ↦ rw out rest ]
-    each : (e : List ℕ × V) (es : List (List ℕ × V)) → (list_all (λ e. fin.len (map_of e.1) == 0) (filter (λ e. p e.0) es) ≡ true → find p (live es) ≡ None) → (b : Bool) → (fin.len (map_of e.1) == 0) ≡ b → (b && list_all (λ e. fin.len (map_of e.1) == 0) (filter (λ e. p e.0) es)) ≡ true → find p (live (e ∷ es)) ≡ None
-    each e es rest true idle h = ap (λ b. find p (cond b (live es) (e.0 ∷ live es))) idle ∙ rest h
-    each e es rest false idle h = absurd (true≢false (sym h))
+        skip : (e : List ℕ × V) (es : List (List ℕ × V)) → p e.0 ≡ false → find p (live es) ≡ None → find p (live (e ∷ es)) ≡ None
+        skip e es out rest = elim (fin.len (map_of e.1) == 0) as (λ b. find p (cond b (live es) (e.0 ∷ live es)) ≡ None) [ true ↦ rest | false ↦ rw out rest ]
+
+        each : (e : List ℕ × V) (es : List (List ℕ × V)) → (list_all (λ e. fin.len (map_of e.1) == 0) (filter (λ e. p e.0) es) ≡ true → find p (live es) ≡ None) → (b : Bool) → (fin.len (map_of e.1) == 0) ≡ b → (b && list_all (λ e. fin.len (map_of e.1) == 0) (filter (λ e. p e.0) es)) ≡ true → find p (live (e ∷ es)) ≡ None
+        each e es rest true idle h = ap (λ b. find p (cond b (live es) (e.0 ∷ live es))) idle ∙ rest h
+        each e es rest false idle h = absurd (true≢false (sym h))
 
   -- ---- at a path below
 

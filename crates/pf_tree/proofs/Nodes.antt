@@ -107,11 +107,13 @@ module _ {X B : Type 0} (map_of : B → FinMap path_cmp X) (own : Option X) (chi
   put_child before found rest x is = same_everywhere (grown map_of own new) (put_payload (grown map_of own children) (first ∷ rest) x) here below where
     here : fin.get (grown map_of own new) [] ≡ fin.get (put_payload (grown map_of own children) (first ∷ rest) x) []
     here = changed_own ∙ sym (put_found (grown map_of own children) (first ∷ rest) x [])
+
     each : (name : List ℕ) (q : List (List ℕ)) (b : Bool) → eq_by_cmp name_cmp first name ≡ b → cond b (fin.get (map_of after) q) (fin.get (grown map_of own children) (name ∷ q)) ≡ cond (b && eq_by_cmp path_cmp q rest) x (fin.get (grown map_of own children) (name ∷ q))
     each name q false e = refl
     each name q true e =
         ap (λ m. fin.get m q) is ∙ put_found (map_of before) rest x q
         ∙ ap (cond (eq_by_cmp path_cmp q rest) x) (sym (grown_below map_of own children sorted name q ∙ ap (λ n. option_and_then (λ c. fin.get (map_of c) q) (child_at children n)) (sym (is_true_eq first name e)) ∙ ap (option_and_then (λ c. fin.get (map_of c) q)) found))
+
     below : (name : List ℕ) (q : List (List ℕ)) → fin.get (grown map_of own new) (name ∷ q) ≡ fin.get (put_payload (grown map_of own children) (first ∷ rest) x) (name ∷ q)
     below name q =
         changed name q ∙ each name q (eq_by_cmp name_cmp first name) refl
@@ -143,7 +145,7 @@ fresh_prepared is_blank meaning payload children none at = rw none (each at) whe
 abbrev pub found_in : {X B : Type 0} → (B → FinMap path_cmp X) → Option B → List (List ℕ) → Option X
 found_in map_of child q = option_and_then (λ c. fin.get (map_of c) q) child
 
-same_bytes : (xs : List ℕ) → bytes_eq xs xs ≡ true
+pub same_bytes : (xs : List ℕ) → bytes_eq xs xs ≡ true
 same_bytes xs = (bytes_eq-Decides xs xs).1 refl
 
 module _ {P B : Type 0} (is_blank : P → Bool) (meaning : B → Planted P) (payload : P) (children new : List (List ℕ × B)) (sorted : IsStrictlySortedBy name_cmp (keys_of children)) (new_sorted : IsStrictlySortedBy name_cmp (keys_of new)) (first : List ℕ) (rest : List (List ℕ)) (after : B) (puts : PutsChild children new first after) where
@@ -182,9 +184,9 @@ module _ {P B : Type 0} (is_blank : P → Bool) (meaning : B → Planted P) (pay
       same_everywhere (planted is_blank meaning payload new).payloads fin.empty
       (changed_own (λ c. (meaning c).payloads) (shown is_blank payload) children new sorted new_sorted first after puts ∙ ap (λ m. fin.get m []) none)
       (λ name q. changed (λ c. (meaning c).payloads) (shown is_blank payload) children new sorted new_sorted first after puts name q ∙ each name q (eq_by_cmp name_cmp first name)) where
-    each : (name : List ℕ) (q : List (List ℕ)) (b : Bool) → cond b (fin.get (meaning after).payloads q) (fin.get (planted is_blank meaning payload children).payloads (name ∷ q)) ≡ fin.get (fin.empty {R = path_cmp}) (name ∷ q)
-    each name q true = ap (λ m. fin.get m q) child ∙ fin.get-empty path_cmp q ∙ sym (fin.get-empty path_cmp (name ∷ q))
-    each name q false = ap (λ m. fin.get m (name ∷ q)) none
+        each : (name : List ℕ) (q : List (List ℕ)) (b : Bool) → cond b (fin.get (meaning after).payloads q) (fin.get (planted is_blank meaning payload children).payloads (name ∷ q)) ≡ fin.get (fin.empty {R = path_cmp}) (name ∷ q)
+        each name q true = ap (λ m. fin.get m q) child ∙ fin.get-empty path_cmp q ∙ sym (fin.get-empty path_cmp (name ∷ q))
+        each name q false = ap (λ m. fin.get m (name ∷ q)) none
 
   pub branch_prepared : ((at : List (List ℕ)) → is_prepared (planted is_blank meaning payload children) at ≡ begins [] at) → ((at : List (List ℕ)) → is_prepared (meaning after) at ≡ begins rest at) → (at : List (List ℕ)) → is_prepared (planted is_blank meaning payload new) at ≡ begins (first ∷ rest) at
   branch_prepared none child [] = ap is_some (prepared_own is_blank meaning payload new)
@@ -303,11 +305,11 @@ module _ {X B : Type 0} (map_of : B → FinMap path_cmp X) (own : Option X) (chi
       ∙ each name q (eq_by_cmp name_cmp first name) refl
       ∙ ap (λ b. cond (not (option_map_or is_reserved (if b then name_behind rest q else None) false)) (fin.get (grown map_of own children) (name ∷ q)) None) (is_eq-slice_cmp first name)
       ∙ sym (retain_found (grown map_of own children) (first ∷ rest) (name ∷ q))) where
-    each : (name : List ℕ) (q : List (List ℕ)) (b : Bool) → eq_by_cmp name_cmp first name ≡ b → cond b (fin.get (map_of after) q) (fin.get (grown map_of own children) (name ∷ q)) ≡ cond (not (option_map_or is_reserved (if b then name_behind rest q else None) false)) (fin.get (grown map_of own children) (name ∷ q)) None
-    each name q false e = refl
-    each name q true e =
-        ap (λ m. fin.get m q) is ∙ retain_found (map_of before) rest q
-        ∙ ap (λ x. cond (stays rest q) x None) (sym (found_here name q e ∙ ap (λ c. found_in map_of c q) found))
+        each : (name : List ℕ) (q : List (List ℕ)) (b : Bool) → eq_by_cmp name_cmp first name ≡ b → cond b (fin.get (map_of after) q) (fin.get (grown map_of own children) (name ∷ q)) ≡ cond (not (option_map_or is_reserved (if b then name_behind rest q else None) false)) (fin.get (grown map_of own children) (name ∷ q)) None
+        each name q false e = refl
+        each name q true e =
+            ap (λ m. fin.get m q) is ∙ retain_found (map_of before) rest q
+            ∙ ap (λ x. cond (stays rest q) x None) (sym (found_here name q e ∙ ap (λ c. found_in map_of c q) found))
 
   pub retain_missing : child_at children first ≡ None → grown map_of own children ≡ fin.retain_keys (grown map_of own children) (stays (first ∷ rest))
   retain_missing none =
@@ -317,9 +319,10 @@ module _ {X B : Type 0} (map_of : B → FinMap path_cmp X) (own : Option X) (chi
       each name q (eq_by_cmp name_cmp first name) refl
       ∙ ap (λ b. cond (not (option_map_or is_reserved (if b then name_behind rest q else None) false)) (fin.get (grown map_of own children) (name ∷ q)) None) (is_eq-slice_cmp first name)
       ∙ sym (retain_found (grown map_of own children) (first ∷ rest) (name ∷ q))) where
-    both_none : (b : Bool) (x : Option X) → x ≡ None → x ≡ cond b x None
-    both_none true x e = refl
-    both_none false x e = e
-    each : (name : List ℕ) (q : List (List ℕ)) (b : Bool) → eq_by_cmp name_cmp first name ≡ b → fin.get (grown map_of own children) (name ∷ q) ≡ cond (not (option_map_or is_reserved (if b then name_behind rest q else None) false)) (fin.get (grown map_of own children) (name ∷ q)) None
-    each name q false e = refl
-    each name q true e = both_none (stays rest q) (fin.get (grown map_of own children) (name ∷ q)) (found_here name q e ∙ ap (λ c. found_in map_of c q) none)
+        both_none : (b : Bool) (x : Option X) → x ≡ None → x ≡ cond b x None
+        both_none true x e = refl
+        both_none false x e = e
+
+        each : (name : List ℕ) (q : List (List ℕ)) (b : Bool) → eq_by_cmp name_cmp first name ≡ b → fin.get (grown map_of own children) (name ∷ q) ≡ cond (not (option_map_or is_reserved (if b then name_behind rest q else None) false)) (fin.get (grown map_of own children) (name ∷ q)) None
+        each name q false e = refl
+        each name q true e = both_none (stays rest q) (fin.get (grown map_of own children) (name ∷ q)) (found_here name q e ∙ ap (λ c. found_in map_of c q) none)

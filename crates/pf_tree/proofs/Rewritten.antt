@@ -62,22 +62,26 @@ module _ {X V : Type 0} (map_of : V → FinMap path_cmp X) where
   found_kept (e ∷ es) new h first rest =
       ap (λ cs. found_in map_of (child_at cs first) rest) h.4
       ∙ each (found_kept es h.1 h.3 first rest) (eq_by_cmp name_cmp first e.0) refl where
-    kept : (b : Bool) → fin.get (if b then fin.empty else map_of e.1) rest ≡ cond (not b) (fin.get (map_of e.1) rest) None
-    kept true = fin.get-empty path_cmp rest
-    kept false = refl
-    each : found_in map_of (child_at h.1 first) rest ≡ cond (not (is_reserved first)) (found_in map_of (child_at es first) rest) None → (b : Bool) → eq_by_cmp name_cmp first e.0 ≡ b → found_in map_of (cond b (Some h.0) (child_at h.1 first)) rest ≡ cond (not (is_reserved first)) (found_in map_of (cond b (Some e.1) (child_at es first)) rest) None
-    each others true same = ap (λ m. fin.get m rest) h.2 ∙ kept (is_reserved e.0) ∙ ap (λ n. cond (not (is_reserved n)) (fin.get (map_of e.1) rest) None) (sym (is_true_eq first e.0 same))
-    each others false other = others
+        kept : (b : Bool) → fin.get (if b then fin.empty else map_of e.1) rest ≡ cond (not b) (fin.get (map_of e.1) rest) None
+        kept true = fin.get-empty path_cmp rest
+        kept false = refl
+
+        each : found_in map_of (child_at h.1 first) rest ≡ cond (not (is_reserved first)) (found_in map_of (child_at es first) rest) None → (b : Bool) → eq_by_cmp name_cmp first e.0 ≡ b → found_in map_of (cond b (Some h.0) (child_at h.1 first)) rest ≡ cond (not (is_reserved first)) (found_in map_of (cond b (Some e.1) (child_at es first)) rest) None
+        each others true same = ap (λ m. fin.get m rest) h.2 ∙ kept (is_reserved e.0) ∙ ap (λ n. cond (not (is_reserved n)) (fin.get (map_of e.1) rest) None) (sym (is_true_eq first e.0 same))
+        each others false other = others
 
   -- children of reserved names without anything leave what stands under the others
   pub kept_grown : (own : Option X) (es new : List (List ℕ × V)) → IsStrictlySortedBy name_cmp (keys_of es) → IsStrictlySortedBy name_cmp (keys_of new) → Rewritten (λ k v w. map_of w ≡ (if is_reserved k then fin.empty else map_of v)) es new → grown map_of own new ≡ fin.retain_keys (grown map_of own es) (λ at. not (is_nameless_below [] at))
   kept_grown own es new sorted new_sorted h = same_everywhere (grown map_of own new) (fin.retain_keys (grown map_of own es) keeps) here below where
     keeps : List (List ℕ) → Bool
     keeps at = not (is_nameless_below [] at)
+
     alike : (q x : List (List ℕ)) → path_cmp q x ≡ Equal → keeps x ≡ keeps q
     alike q x tie = ap keeps (sym (path_same q x tie))
+
     here : fin.get (grown map_of own new) [] ≡ fin.get (fin.retain_keys (grown map_of own es) keeps) []
     here = grown_own map_of own new ∙ sym (fin.get-retain_keys (grown map_of own es) keeps [] (alike []) ∙ grown_own map_of own es)
+
     below : (first : List ℕ) (rest : List (List ℕ)) → fin.get (grown map_of own new) (first ∷ rest) ≡ fin.get (fin.retain_keys (grown map_of own es) keeps) (first ∷ rest)
     below first rest =
         grown_below map_of own new new_sorted first rest

@@ -1,5 +1,5 @@
 //! The nodes of a tree: each has a payload and its children by their names.
-ghost use Rattle.std.specs.Prelude.{◌≡◌, ℕ, List, [], true, false, ◌||◌, ◌==◌, not, IfSome, IfOk, OnOk, if◌then◌else◌};
+ghost use Rattle.std.specs.Prelude.{◌≡◌, ℕ, List as Items, [], ◌∷◌, ◌++◌, map, true, false, ◌||◌, ◌==◌, not, IfSome, IfOk, OnOk, if◌then◌else◌};
 ghost use Rattle.std.specs.FinMap as fin;
 ghost use Rattle.std.specs.List.{list_all, list_any};
 ghost use Rattle.std.specs.Option.{option_copied};
@@ -8,7 +8,7 @@ ghost use Rattle.pf_tree.specs.Meaning.{is_prepared, put_payload, shown};
 ghost use Rattle.pf_tree.specs.Paths.{begins, is_nameless_below, next_name};
 
 use crate::blank::Blank;
-use pf_base::{Name, NoMemory, Path};
+use pf_base::{List, Name, NoMemory, Path};
 use std::alloc::Global;
 use std::collections::BTreeMap;
 use std::marker::Model;
@@ -50,11 +50,22 @@ fn is_nameless(name: &Name) -> bool
     matches!(name.bytes(), [b'_', ..])
 }
 
+// Adds a path where something stands there.
+fn add_path(there: bool, at: &Path, paths: &mut List<Path>) -> Result<(), NoMemory>
+    ensures { OnOk result (paths.new ≡ paths.old ++ (if there then at.now ∷ [] else [])) }
+{
+    if !there {
+        return Ok(());
+    }
+    paths.push_copy(at)?;
+    Ok(())
+}
+
 impl<P: Blank> Node<P> {
     // A node without children, and with a blank payload.
     pub fn new(alloc: Global) -> Node<P>
         ensures payloads { result.payloads ≡ fin.empty }
-        ensures prepared { (at : List (List ℕ)) → is_prepared result at ≡ begins [] at }
+        ensures prepared { (at : Items (Items ℕ)) → is_prepared result at ≡ begins [] at }
     {
         Node {
             payload: P::fresh(alloc),
@@ -131,10 +142,26 @@ impl<P: Blank> Node<P> {
         }
     }
 
+    // Adds the paths of the payloads at and below the node, which stands at a path itself, in path order.
+    pub fn add_paths(&self, at: &Path, paths: &mut List<Path>) -> Result<(), NoMemory>
+        requires { (below : Items (Items ℕ)) → is_prepared self.now below ≡ true → IsPath (at.now ++ below) }
+        ensures { OnOk result (paths.new ≡ paths.old ++ map (λ below. at.now ++ below) (fin.keys self.now.payloads)) }
+    {
+        add_path(!self.payload.is_blank(), at, paths)?;
+        for (name, child) in &self.children {
+            let _payload = &child.payload;
+            let Some(below) = at.child(name) else {
+                unreachable!()
+            };
+            child.add_paths(&below, paths)?;
+        }
+        Ok(())
+    }
+
     // A node that has a node at this path and on the way to it, and blank payloads alone.
     fn branch(alloc: Global, names: &[Name]) -> Result<Box<Node<P>>, NoMemory>
         ensures payloads { IfOk result (λ node. node.value.payloads ≡ fin.empty) }
-        ensures prepared { IfOk result (λ node. (at : List (List ℕ)) → is_prepared node.value at ≡ begins names.now at) }
+        ensures prepared { IfOk result (λ node. (at : Items (Items ℕ)) → is_prepared node.value at ≡ begins names.now at) }
     {
         let mut node = Node::new(alloc);
         let Some((name, below)) = names.split_first() else {
@@ -150,8 +177,8 @@ impl<P: Blank> Node<P> {
     // Makes nodes where there are none on the way to this path.
     pub fn grow(&mut self, alloc: Global, names: &[Name]) -> Result<(), NoMemory>
         ensures payloads { self.new.payloads ≡ self.old.payloads }
-        ensures kept { (at : List (List ℕ)) → is_prepared self.old at ≡ true → is_prepared self.new at ≡ true }
-        ensures within { (at : List (List ℕ)) → is_prepared self.new at ≡ true → (is_prepared self.old at || begins names.now at) ≡ true }
+        ensures kept { (at : Items (Items ℕ)) → is_prepared self.old at ≡ true → is_prepared self.new at ≡ true }
+        ensures within { (at : Items (Items ℕ)) → is_prepared self.new at ≡ true → (is_prepared self.old at || begins names.now at) ≡ true }
         ensures ok { OnOk result (is_prepared self.new names.now ≡ true) }
     {
         let children = &mut self.children;
@@ -169,10 +196,10 @@ impl<P: Blank> Node<P> {
     // Makes nodes where there are none on the way to these paths.
     pub fn grow_all(&mut self, alloc: Global, paths: &[Path]) -> Result<(), NoMemory>
         ensures payloads { self.new.payloads ≡ self.old.payloads }
-        ensures kept { (at : List (List ℕ)) → is_prepared self.old at ≡ true → is_prepared self.new at ≡ true }
-        ensures within { (at : List (List ℕ)) → is_prepared self.new at ≡ true → (is_prepared self.old at || list_any (λ path. begins path at) paths.now) ≡ true }
+        ensures kept { (at : Items (Items ℕ)) → is_prepared self.old at ≡ true → is_prepared self.new at ≡ true }
+        ensures within { (at : Items (Items ℕ)) → is_prepared self.new at ≡ true → (is_prepared self.old at || list_any (λ path. begins path at) paths.now) ≡ true }
         ensures ok { OnOk result (list_all (λ path. is_prepared self.new path) paths.now ≡ true) }
-        ensures paths { ((at : List (List ℕ)) → is_prepared self.old at ≡ true → IsPath at) → (at : List (List ℕ)) → is_prepared self.new at ≡ true → IsPath at }
+        ensures paths { ((at : Items (Items ℕ)) → is_prepared self.old at ≡ true → IsPath at) → (at : Items (Items ℕ)) → is_prepared self.new at ≡ true → IsPath at }
     {
         for path in paths {
             self.grow(alloc, path.names())?;
@@ -202,14 +229,16 @@ impl<P: Blank> Node<P> {
         ensures prepared { self.new.prepared ≡ self.old.prepared }
     {
         self.payload.blank();
-        self.children.retain(|_, child| -> bool
-            ensures stays { result ≡ true }
-            ensures payloads { child.new.value.payloads ≡ fin.empty }
-            ensures prepared { child.new.value.prepared ≡ child.old.value.prepared }
-        {
-            child.blank_all();
-            true
-        });
+        self.children.retain(
+            |_, child| -> bool
+                ensures stays { result ≡ true }
+                ensures payloads { child.new.value.payloads ≡ fin.empty }
+                ensures prepared { child.new.value.prepared ≡ child.old.value.prepared }
+            {
+                child.blank_all();
+                true
+            },
+        );
     }
 
     // Makes each payload at and below a child blank whose name begins with `_`.
@@ -217,16 +246,18 @@ impl<P: Blank> Node<P> {
         ensures payloads { self.new.payloads ≡ fin.retain_keys self.old.payloads (λ at. not (is_nameless_below [] at)) }
         ensures prepared { self.new.prepared ≡ self.old.prepared }
     {
-        self.children.retain(|name, child| -> bool
-            ensures stays { result ≡ true }
-            ensures payloads { child.new.value.payloads ≡ (if is_reserved name.now then fin.empty else child.old.value.payloads) }
-            ensures prepared { child.new.value.prepared ≡ child.old.value.prepared }
-        {
-            if is_nameless(name) {
-                child.blank_all();
-            }
-            true
-        });
+        self.children.retain(
+            |name, child| -> bool
+                ensures stays { result ≡ true }
+                ensures payloads { child.new.value.payloads ≡ (if is_reserved name.now then fin.empty else child.old.value.payloads) }
+                ensures prepared { child.new.value.prepared ≡ child.old.value.prepared }
+            {
+                if is_nameless(name) {
+                    child.blank_all();
+                }
+                true
+            },
+        );
     }
 
     // Makes each payload at and below a child of this path blank whose name begins with `_`.

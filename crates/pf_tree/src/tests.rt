@@ -1,3 +1,5 @@
+ghost use Rattle.std.specs.Prelude.{◌==◌};
+
 use crate::{Blank, Tree};
 use pf_base::{Name, Path};
 use std::alloc::Global;
@@ -60,7 +62,11 @@ fn a_prepared_path_has_nothing_before_a_payload_is_put_there(rt: HostRuntime) ->
 #[test]
 fn what_stands_below_nameless_children_goes(rt: HostRuntime) -> Result<(), Fail> {
     let mut tree: Tree<Ticket> = Tree::new(rt.alloc());
-    for (text, number) in [(b"_1".as_slice(), 1), (b"_1/a".as_slice(), 2), (b"b/_2".as_slice(), 3)] {
+    for (text, number) in [
+        (b"_1".as_slice(), 1),
+        (b"_1/a".as_slice(), 2),
+        (b"b/_2".as_slice(), 3),
+    ] {
         put(&mut tree, rt.alloc(), text, number)?;
     }
     put(&mut tree, rt.alloc(), b"/", 4)?;
@@ -77,7 +83,12 @@ fn what_stands_below_nameless_children_goes(rt: HostRuntime) -> Result<(), Fail>
 #[test]
 fn children_come_in_byte_order(rt: HostRuntime) -> Result<(), Fail> {
     let mut tree: Tree<Ticket> = Tree::new(rt.alloc());
-    for (text, number) in [(b"b".as_slice(), 1), (b"a/z".as_slice(), 2), (b"ab".as_slice(), 3), (b"c/d".as_slice(), 0)] {
+    for (text, number) in [
+        (b"b".as_slice(), 1),
+        (b"a/z".as_slice(), 2),
+        (b"ab".as_slice(), 3),
+        (b"c/d".as_slice(), 0),
+    ] {
         put(&mut tree, rt.alloc(), text, number)?;
     }
     let main = Path::main();
@@ -89,5 +100,30 @@ fn children_come_in_byte_order(rt: HostRuntime) -> Result<(), Fail> {
         last = next;
     }
     assert!(rt; tree.next_child(&main, last.as_ref()).is_none());
+    Ok(())
+}
+
+#[test]
+fn paths_come_in_path_order(rt: HostRuntime) -> Result<(), Fail> {
+    let mut tree: Tree<Ticket> = Tree::new(rt.alloc());
+    for text in [
+        b"b".as_slice(),
+        b"ab".as_slice(),
+        b"a/z".as_slice(),
+        b"/".as_slice(),
+        b"a".as_slice(),
+    ] {
+        put(&mut tree, rt.alloc(), text, 1)?;
+    }
+    tree.prepare(rt.alloc(), &[path(b"c/d")?])?;
+    let paths = tree.paths(rt.alloc())?;
+    let wanted = [
+        path(b"/")?,
+        path(b"a")?,
+        path(b"a/z")?,
+        path(b"ab")?,
+        path(b"b")?,
+    ];
+    assert_eq!(rt; paths.items(), wanted.as_slice());
     Ok(())
 }

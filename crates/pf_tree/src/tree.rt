@@ -1,5 +1,5 @@
 //! The tree: a finite map from paths to payloads.
-ghost use Rattle.std.specs.Prelude.{◌≡◌, ℕ, List, [], ◌∷◌, ◌++◌, Some, true, false, ◌||◌, not, IfSome, OnOk};
+ghost use Rattle.std.specs.Prelude.{◌≡◌, ℕ, List as Items, [], ◌∷◌, ◌++◌, Some, true, false, ◌||◌, not, IfOk, IfSome, OnOk};
 ghost use Rattle.std.specs.FinMap as fin;
 ghost use Rattle.std.specs.List.{list_all, list_any};
 ghost use Rattle.std.specs.Option.{option_copied};
@@ -9,7 +9,7 @@ ghost use Rattle.pf_tree.specs.Paths.{begins, is_nameless_below, next_name};
 
 use crate::blank::Blank;
 use crate::node::Node;
-use pf_base::{Name, NoMemory, Path};
+use pf_base::{List, Name, NoMemory, Path};
 use std::alloc::Global;
 use std::marker::Model;
 
@@ -63,8 +63,8 @@ impl<P: Blank> Tree<P> {
     pub fn prepare(&mut self, alloc: Global, paths: &[Path]) -> Result<(), NoMemory>
         ensures payloads { self.new.payloads ≡ self.old.payloads }
         ensures prepared { OnOk result (list_all (λ path. is_prepared self.new path) paths.now ≡ true) }
-        ensures kept { (at : List (List ℕ)) → is_prepared self.old at ≡ true → is_prepared self.new at ≡ true }
-        ensures within { (at : List (List ℕ)) → is_prepared self.new at ≡ true → (is_prepared self.old at || list_any (λ path. begins path at) paths.now) ≡ true }
+        ensures kept { (at : Items (Items ℕ)) → is_prepared self.old at ≡ true → is_prepared self.new at ≡ true }
+        ensures within { (at : Items (Items ℕ)) → is_prepared self.new at ≡ true → (is_prepared self.old at || list_any (λ path. begins path at) paths.now) ≡ true }
     {
         self.root.grow_all(alloc, paths)
     }
@@ -85,5 +85,15 @@ impl<P: Blank> Tree<P> {
         ensures prepared { self.new.prepared ≡ self.old.prepared }
     {
         self.root.clear_under(path.names());
+    }
+
+    /// All paths of the tree in path order: names compared from the front in byte order, and a path before those
+    /// that it begins.
+    pub fn paths(&self, alloc: Global) -> Result<List<Path>, NoMemory>
+        ensures { IfOk result (λ paths. paths ≡ fin.keys self.now.payloads) }
+    {
+        let mut paths = List::new(alloc);
+        self.root.add_paths(&Path::main(), &mut paths)?;
+        Ok(paths)
     }
 }

@@ -11,5 +11,5 @@ invariant-loop-path g l = record {
   kept : (at : List (List ℕ)) → is_prepared l.fn.self at ≡ true → is_prepared l.self at ≡ true;
   within : (at : List (List ℕ)) → is_prepared l.self at ≡ true → (is_prepared l.fn.self at || list_any (λ path. begins path at) (take l.path-index l.paths)) ≡ true;
   all : list_all (λ path. is_prepared l.self path) (take l.path-index l.paths) ≡ true;
-  paths : ((at : List (List ℕ)) → is_prepared l.fn.self at ≡ true → IsPath at) → (at : List (List ℕ)) → is_prepared l.self at ≡ true → IsPath at
+  paths : ((at : List (List ℕ)) → is_prepared l.fn.self at ≡ true → IsPath at) → (at : List (List ℕ)) → is_prepared l.self at ≡ true → IsPath at;
 }
