@@ -1,5 +1,5 @@
 -- How a translation is printed (pf.conf(5), TRANSLATION).
-use Rattle.std.specs.Prelude.{ℕ, List, [], ◌∷◌, ◌++◌, Option, Some, codes}
+use Rattle.std.specs.Prelude.{ℕ, List, [], ◌∷◌, ◌++◌, Some, codes}
 use Rattle.pf_addr.specs.Text.{addr_text}
 use Rattle.pf_parts.specs.Parts.{joined, with_number}
 use Rattle.pf_rule.specs.declared.translation.Target.{Target}
