@@ -174,7 +174,7 @@ impl Reads {
         }
     }
 
-    /// The number of the file with this name, or None where it wasn't read.
+    /// The number of the file with this name, or None where it has none.
     pub fn number(&self, name: &Text) -> Option<u64>
         ensures number { result ≡ position (bytes_eq name.now) self.now.names }
         ensures named { IfSome result (λ number. slice_get self.now.names number ≡ Some name.now) }
