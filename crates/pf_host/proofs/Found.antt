@@ -123,9 +123,9 @@ module _ (meant : List ℕ → Bool) (hit : Masked → Bool) where
   from_one iface (row ∷ rows) is h =
       ⊎_elim
       (λ head.
-        let parts = and_parts (bytes_eq row.name iface) (hit row.value) head in
-        let same : row.name ≡ iface = (bytes_eq-Decides row.name iface).0 parts.0 in
-        or_left (meant row.name && hit row.value) _ (and_from (meant row.name) (hit row.value) (ap meant same ∙ is) parts.1))
+      let parts = and_parts (bytes_eq row.name iface) (hit row.value) head in
+      let same : row.name ≡ iface = (bytes_eq-Decides row.name iface).0 parts.0 in
+      or_left (meant row.name && hit row.value) _ (and_from (meant row.name) (hit row.value) (ap meant same ∙ is) parts.1))
       (λ tail. or_right (meant row.name && hit row.value) _ (from_one iface rows is tail))
       (or_cases (bytes_eq row.name iface && hit row.value) _ h)
 
@@ -153,16 +153,16 @@ module _ (meant : List ℕ → Bool) (hit : Masked → Bool) where
   witness ifaces (row ∷ rows) all h =
       ⊎_elim
       (λ head.
-        let parts = and_parts (meant row.name) (hit row.value) head in
-        record {
-          iface = row.name;
-          listed = first_so _ _ all;
-          is = parts.0;
-          has = or_left _ _ (and_from (bytes_eq row.name row.name) (hit row.value) (same_name row.name) parts.1);
-        })
+      let parts = and_parts (meant row.name) (hit row.value) head in
+      record {
+        iface = row.name;
+        listed = first_so _ _ all;
+        is = parts.0;
+        has = or_left _ _ (and_from (bytes_eq row.name row.name) (hit row.value) (same_name row.name) parts.1);
+      })
       (λ tail.
-        let w = witness ifaces rows (second_so _ _ all) tail in
-        record { iface = w.iface; listed = w.listed; is = w.is; has = or_right (bytes_eq row.name w.iface && hit row.value) _ w.has })
+      let w = witness ifaces rows (second_so _ _ all) tail in
+      record { iface = w.iface; listed = w.listed; is = w.is; has = or_right (bytes_eq row.name w.iface && hit row.value) _ w.has })
       (or_cases (meant row.name && hit row.value) _ h)
 
   to_some : (ifaces : List (List ℕ)) (rows : List (Row Masked)) (iface : List ℕ) → is_listed ifaces iface ≡ true → asked rows iface ≡ true → list_any (asked rows) ifaces ≡ true

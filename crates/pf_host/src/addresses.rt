@@ -61,8 +61,7 @@ impl Entry {
 fn has_family(own: &[Entry], addr: &Addr) -> bool
     ensures { result ≡ list_any (λ entry. same_family entry.address.addr addr.now) own.now }
 {
-    own.iter()
-        .any(|entry| entry.address.addr.same_family(addr))
+    own.iter().any(|entry| entry.address.addr.same_family(addr))
 }
 
 // Whether one of the addresses is of the same interface and family.

@@ -79,7 +79,9 @@ impl Facts {
     pub fn in_group(&self, name: &Name, iface: &Name) -> bool
         ensures { result ≡ queries.in_group self.now name.now iface.now }
     {
-        *name == *iface || self.lists.members.holds(iface, name) || is_stem(name.bytes(), iface.bytes())
+        *name == *iface
+            || self.lists.members.holds(iface, name)
+            || is_stem(name.bytes(), iface.bytes())
     }
 
     // Whether the interface is one that the name means.
@@ -133,7 +135,7 @@ impl Facts {
     }
 
     /// The addresses of exactly this interface, or with `network` their networks, in the order of the facts;
-    /// none where there is no such interface (pf.conf(5), ANTISPOOF takes each interface by itself).
+    /// none where there is no such interface. `antispoof` of pf.conf(5) asks for each interface by itself.
     pub fn own_addresses(
         &self,
         alloc: Global,
