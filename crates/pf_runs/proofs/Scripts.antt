@@ -1,19 +1,7 @@
--- Runs without outages: there is one over every list of lines, and no second.
+-- Runs without outages: over a list of lines there is one at most.
 use Rattle.std.proofs.Common.{◌≡◌, ℕ, List, [], ◌∷◌, Option, None, refl, sym, ap, subst, ◌∙◌}
 use Rattle.pf_source.specs.Disk.{Disk, without}
-use Rattle.pf_runs.specs.Runs.{DoesOneThing, DoesSome, DoesSomething, Event, Follow, HaveNoOutage, Script, Step, Stepped, lines_in}
-
-script_on : {M : Type 0} (step : Step M) (disk : Disk) (machine : M) (line : List ℕ) (lines : List (List ℕ)) → (first : DoesSome step disk machine line) → Script step disk first.does.machine lines → Script step disk machine (line ∷ lines)
-script_on step disk machine line lines first rest = record {
-  events = record { line = line; outage = None; does = first.does } ∷ rest.events;
-  are = ap (λ ls. line ∷ ls) rest.are;
-  follow = (first.steps, tt, rest.follow);
-  whole = (refl, rest.whole);
-}
-
-pub some_script : {M : Type 0} (step : Step M) (disk : Disk) → DoesSomething step disk → (machine : M) (lines : List (List ℕ)) → Script step disk machine lines
-some_script step disk does machine [] = record { events = []; are = refl; follow = tt; whole = tt }
-some_script step disk does machine (line ∷ lines) = script_on step disk machine line lines (does machine line) (some_script step disk does (does machine line).does.machine lines)
+use Rattle.pf_runs.specs.Runs.{DoesOneThing, Event, Follow, HaveNoOutage, Script, Step, Stepped, lines_in}
 
 -- the step of an event without an outage
 plain_step : {M : Type 0} (step : Step M) (disk : Disk) (machine : M) (event : Event M) → event.outage ≡ None → step (without event.outage disk) machine event.line event.does → step disk machine event.line event.does

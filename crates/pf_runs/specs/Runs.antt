@@ -1,5 +1,5 @@
 -- What a run over lines is, for any machine and any step of it.
-use Rattle.std.specs.Prelude.{◌≡◌, ℕ, ◌+◌, ◌≤◌, Bool, true, false, ◌||◌, List, [], ◌∷◌, ◌++◌, take, map, Option, Some, None}
+use Rattle.std.specs.Prelude.{◌≡◌, ℕ, ◌+◌, ◌≤◌, Bool, true, false, ◌||◌, List, [], ◌∷◌, ◌++◌, length, take, map, Option, Some, None}
 use Rattle.std.specs.List.{flat_map}
 use Rattle.std.specs.Io.KnownBytes.{Appends, Keeps}
 use Rattle.pf_source.specs.Asks.{Asks, StaysHeld}
@@ -125,7 +125,7 @@ pub record CutsReply {M : Type 0} (step : Step M) (disk : Disk) (line : List ℕ
   pub written : Appends before.sink.written after.sink.written (take taken reply)
   pub writes : CountsOn 1 before.sink.calls after.sink.calls
 
--- Nothing was written, in one write at most; reads may have failed.
+-- Nothing was written, in one write at most; a read of a file may have failed.
 pub record WritesNothing {M : Type 0} (before after : World M) : Type 0 where
   pub written : Keeps before.sink.written after.sink.written
   pub tries : ℕ
@@ -133,6 +133,7 @@ pub record WritesNothing {M : Type 0} (before after : World M) : Type 0 where
   pub writes : CountsOn tries before.sink.calls after.sink.calls
   pub more : List (List ℕ)
   pub asks : Asks more before.files after.files
+  pub few : length more ≤ 1
 
 -- why a run stops before its end
 pub data Cause : Type 0 where
@@ -170,7 +171,3 @@ pub record DoesSome {M : Type 0} (step : Step M) (disk : Disk) (machine : M) (li
 -- over this disk a line does one thing alone
 abbrev pub DoesOneThing : {M : Type 0} → Step M → Disk → Type 0
 DoesOneThing {M = M} step disk = (machine : M) (line : List ℕ) (a b : Stepped M) → step disk machine line a → step disk machine line b → a ≡ b
-
--- over this disk each line does something
-abbrev pub DoesSomething : {M : Type 0} → Step M → Disk → Type 0
-DoesSomething {M = M} step disk = (machine : M) (line : List ℕ) → DoesSome step disk machine line

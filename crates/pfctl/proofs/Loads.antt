@@ -8,7 +8,7 @@ use Rattle.pf_source.specs.Disk.{AreAbsent, Disk, without}
 use Rattle.pf_source.specs.Told.{FilesTold, Told, file_of}
 use Rattle.pf_runs.specs.Runs.{Stepped, Answers, IsOutage}
 use Rattle.pfctl.specs.Command.{Load, command_of}
-use Rattle.pfctl.specs.Doing.{Does, MayFail}
+use Rattle.pfctl.specs.Doing.{Does}
 use Rattle.pfctl.specs.Machine.{Machine}
 use Rattle.pfctl.specs.Step.{after_load, step}
 use Rattle.pfctl.proofs.Lines.{steps_by}

@@ -1,5 +1,5 @@
 -- A run of the program: the load, and then the input.
-use Rattle.std.proofs.Common.{◌≡◌, ◌≤◌, ℕ, Bool, true, false, cond, codes, ◌&&◌, List, [], ◌∷◌, ◌++◌, length, map, take, None, Some, Ok, Err, refl, subst, arith}
+use Rattle.std.proofs.Common.{◌≡◌, ◌≤◌, ℕ, Bool, true, false, cond, codes, ◌&&◌, List, [], ◌∷◌, ◌++◌, length, map, take, None, Some, Ok, Err, refl, subst}
 use Rattle.std.specs.Prelude.{IfSome}
 use Rattle.std.specs.Str.{bytes_eq}
 use Rattle.std.specs.Cmp.{first_so, second_so}
@@ -7,8 +7,7 @@ use Rattle.pf_base.specs.Text.{whole_lines, lines_of}
 use Rattle.pf_source.specs.Told.{FilesTold, SinkTold, SourceTold}
 use Rattle.pf_source.specs.Disk.{Disk}
 use Rattle.pf_runs.specs.Runs.{World, Executes, Stops}
-use Rattle.pf_source.specs.KnownLaws.{Consumes-nothing}
-use Rattle.pf_runs.specs.RunLaws.{executes_nothing, executes_on}
+use Rattle.pf_runs.proofs.RunLemmas.{executes_nothing, executes_on}
 use Rattle.pfctl.specs.declared.program.Status.TheVariants.{Words}
 use Rattle.pfctl.specs.declared.session.Session.{Session}
 use Rattle.pfctl.specs.declared.session.Ending.{Ending}
@@ -16,7 +15,7 @@ use Rattle.pfctl.specs.declared.session.Ending.TheVariants as ending
 use Rattle.pfctl.specs.declared.session.Stop.{Stop}
 use Rattle.pfctl.specs.declared.session.Stop.TheVariants as stop
 use Rattle.pfctl.specs.Doing.{EndsInput, FailsByCount, ReadsAll, ReadsUntilStop, RunsOver, StopsBehind, at_last_line as at_last, cause_of, in_piece as within_piece, status_at, status_by, world}
-use Rattle.pfctl.specs.Input.{InputToPiece, ReadsToLast, SomeInput, last_line, lines_ending_in, most_input, test_lines}
+use Rattle.pfctl.specs.Input.{StoppedInput, last_line, lines_ending_in, most_input, test_lines, to_end, to_piece, untouched}
 use Rattle.pfctl.specs.Machine.{Machine, empty_machine}
 use Rattle.pfctl.specs.Program.{Broke, Finished, HasCause, Means, ProgramWords, Ran, Stopped, at_last_line, at_load, gives_define, in_piece, is_file_word, is_word, load_line, names_file, opening, outside, program_lines, words_read, words_with}
 use Rattle.pfctl.specs.Step.{step}
@@ -105,20 +104,17 @@ means_nothing disk words files source sink = at_load (record {
 
 -- Why a status comes.
 
-nothing_read : (source : SourceTold) → SomeInput source source
-nothing_read source = record { front = []; reads = record { consumed = Consumes-nothing source.left; given = omega arith } }
+read_to_stop : (why : Stop) (a b : Session) (ia ib : SourceTold) (wa wb : SinkTold) → ReadsUntilStop ia ib (StopsBehind why a b wa wb) → StoppedInput ia ib
+read_to_stop why a b ia ib wa wb (within_piece h) = to_piece h.part
+read_to_stop why a b ia ib wa wb (at_last h) = to_end h.whole
 
-read_to_stop : (why : Stop) (a b : Session) (ia ib : SourceTold) (wa wb : SinkTold) → ReadsUntilStop ia ib (StopsBehind why a b wa wb) → SomeInput ia ib
-read_to_stop why a b ia ib wa wb (within_piece h) = record { front = h.part.front ++ h.part.piece; reads = h.part.reads }
-read_to_stop why a b ia ib wa wb (at_last h) = record { front = h.whole.read.front; reads = h.whole.read.reads }
-
-by_count : (why : Stop) (fa fb : FilesTold) (ia ib : SourceTold) (wa wb : SinkTold) → SomeInput ia ib → FailsByCount {X = Unit {0}} wa wb (Err why) → HasCause (outside fa ia wa) (outside fb ib wb) (status_by (Err why))
+by_count : (why : Stop) (fa fb : FilesTold) (ia ib : SourceTold) (wa wb : SinkTold) → StoppedInput ia ib → FailsByCount {X = Unit {0}} wa wb (Err why) → HasCause (outside fa ia wa) (outside fb ib wb) (status_by (Err why))
 by_count stop.WriteFault fa fb ia ib wa wb read rose = (rose, read)
 by_count stop.NoMemory fa fb ia ib wa wb read rose = read
 
 -- nothing was read
 pub cause_unread : (why : Stop) (fa fb : FilesTold) (ia : SourceTold) (wa wb : SinkTold) → FailsByCount {X = Unit {0}} wa wb (Err why) → HasCause (outside fa ia wa) (outside fb ia wb) (status_by (Err why))
-cause_unread why fa fb ia wa wb rose = by_count why fa fb ia ia wa wb (nothing_read ia) rose
+cause_unread why fa fb ia wa wb rose = by_count why fa fb ia ia wa wb (untouched refl) rose
 
 -- the run stopped within the input
 pub cause_stopped : (why : Stop) (a b : Session) (fa fb : FilesTold) (ia ib : SourceTold) (wa wb wc : SinkTold) → wa.faults ≤ wb.faults → FailsByCount {X = Unit {0}} wb wc (Err why) → EndsInput a b ia ib wb wc (Err why) → HasCause (outside fa ia wa) (outside fb ib wc) (status_by (Err why))

@@ -13,15 +13,15 @@ use Rattle.pfctl.specs.declared.session.Stop.TheVariants as stop
 use Rattle.pfctl.specs.Doing.{DoesAlone, FailsByCount, MayFail, Sends, cause_of}
 use Rattle.pfctl.specs.Machine.{Machine}
 use Rattle.pfctl.specs.Step.{step}
-use Rattle.pfctl.proofs.Steps.{one_reply}
+use Rattle.pfctl.proofs.Steps.{one_reply, one_unread}
 
 pub may_fail_same : (files : FilesTold) → MayFail files files
-may_fail_same files = record { more = []; asks = nothing_asked files }
+may_fail_same files = record { more = []; asks = nothing_asked files; few = omega arith }
 
 -- want of memory stops a run at its first line, in one write at most
 pub no_memory : (disk : Disk) (lines : List (List ℕ)) (a c : World Machine) (tries : ℕ) → tries ≤ 1 → CountsOn tries a.sink.calls c.sink.calls → MayFail a.files c.files → Keeps a.sink.written c.sink.written → Stops step disk Out_of_memory lines a c
 no_memory disk lines a c tries once writes failing keeps =
-    stops_here step disk Out_of_memory lines a c failing.asks.held (record { written = keeps; tries = tries; once = once; writes = writes; more = failing.more; asks = failing.asks })
+    stops_here step disk Out_of_memory lines a c failing.asks.held (record { written = keeps; tries = tries; once = once; writes = writes; more = failing.more; asks = failing.asks; few = failing.few })
 
 -- want of memory before a write
 pub no_memory_unsent : (disk : Disk) (lines : List (List ℕ)) (a c : World Machine) → c.sink ≡ a.sink → MayFail a.files c.files → Stops step disk Out_of_memory lines a c
@@ -36,7 +36,7 @@ not_sent_whole : (disk : Disk) (line : List ℕ) (a c : World Machine) (machine 
 not_sent_whole disk line a c machine reply refused stop.WriteFault answers writes sends =
     stops_here step disk Write_failed (line ∷ []) a c answers.asks.held (record { machine = machine; reply = reply; refused = refused; answers = answers; taken = sends.taken; written = sends.written; writes = writes })
 not_sent_whole disk line a c machine reply refused stop.NoMemory answers writes sends =
-    no_memory disk (line ∷ []) a c 1 (omega arith) writes (record { more = answers.does.unread; asks = answers.asks }) sends
+    no_memory disk (line ∷ []) a c 1 (omega arith) writes (record { more = answers.does.unread; asks = answers.asks; few = one_unread (without answers.outage disk) a.machine line answers.does answers.steps }) sends
 
 -- a reply that isn't written whole stops the run at its line
 pub not_sent : (disk : Disk) (line : List ℕ) (a c : World Machine) (machine : Machine) (reply sent : List ℕ) (refused : Bool) (why : Stop) → Answers step disk line a.machine a.files machine c.files reply refused → sent ≡ reply → CountsOn 1 a.sink.calls c.sink.calls → Sends {X = Unit {0}} a.sink c.sink sent (Err why) → Stops step disk (cause_of why) (line ∷ []) a c

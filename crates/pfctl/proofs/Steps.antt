@@ -1,5 +1,5 @@
 -- What the step says of single lines.
-use Rattle.std.proofs.Common.{◌≡◌, ℕ, Bool, true, false, cond, ◌&&◌, codes, length, List, [], ◌∷◌, Option, None, Some, Ok, Err, Result, refl, sym, ap, subst, ◌∙◌}
+use Rattle.std.proofs.Common.{◌≡◌, ◌≤◌, arith, ℕ, true, false, cond, ◌&&◌, codes, length, List, [], ◌∷◌, Option, None, Some, Ok, Err, Result, refl, sym, ap, subst, ◌∙◌}
 use Rattle.std.specs.Prelude.{nat_le}
 use Rattle.std.specs.List.{list_all}
 use Rattle.std.specs.Str.{bytes_eq}
@@ -67,6 +67,30 @@ command_replies disk machine None_of_these does h = same_pieces (refused machine
 pub one_reply : (disk : Disk) (machine : Machine) (line : List ℕ) (does : Stepped Machine) → step disk machine line does → pieces_of does.reply ≡ 1
 unfolding step
 one_reply disk machine line does h = command_replies disk machine (command_of line) does h
+
+-- Each line is refused for one file at most.
+
+same_few : (a b : Stepped Machine) → a ≡ b → length a.unread ≤ 1 → length b.unread ≤ 1
+same_few a b is one = subst (λ (does : Stepped Machine). length does.unread ≤ 1) is one
+
+load_unread : (machine : Machine) (outcome : Outcome) (does : Stepped Machine) → after_load machine outcome ≡ Some does → length does.unread ≤ 1
+load_unread machine (Ok rules) does is = same_few _ does (one_some _ does is) (omega arith)
+load_unread machine (Err (File kind place name)) does is = same_few _ does (one_some _ does is) (omega arith)
+load_unread machine (Err (CannotRead name)) does is = same_few _ does (one_some _ does is) (omega arith)
+load_unread machine (Err NoMemory) does is = cc
+
+test_unread : (machine : Machine) (read : Result Packet PacketFault) → length (test_packet machine read).unread ≤ 1
+test_unread machine (Ok packet) = omega arith
+test_unread machine (Err fault) = omega arith
+
+command_unread : (disk : Disk) (machine : Machine) (command : Command) (does : Stepped Machine) → CommandDoes disk machine command does → length does.unread ≤ 1
+command_unread disk machine (Load defines file) does h = load_unread machine h.outcome does h.is
+command_unread disk machine (Test text) does h = same_few (test_packet machine h.read) does (sym h.is) (test_unread machine h.read)
+command_unread disk machine None_of_these does h = same_few (refused machine bad_command_text) does (sym h) (omega arith)
+
+pub one_unread : (disk : Disk) (machine : Machine) (line : List ℕ) (does : Stepped Machine) → step disk machine line does → length does.unread ≤ 1
+unfolding step
+one_unread disk machine line does h = command_unread disk machine (command_of line) does h
 
 -- a line that is no command is refused
 pub refused_alone : (disk : Disk) (machine : Machine) (line reply : List ℕ) → command_of line ≡ None_of_these → reply ≡ reply_text (bad_command_text ∷ []) → DoesAlone disk machine line machine reply true

@@ -1,5 +1,5 @@
 -- What the parts of the program do: a step of the machine, a write of its reply, lines that are executed.
-use Rattle.std.specs.Prelude.{◌≡◌, ℕ, ◌≤◌, Bool, true, false, List, [], ◌++◌, take, Result, Ok, Err}
+use Rattle.std.specs.Prelude.{◌≡◌, ℕ, ◌≤◌, Bool, true, false, List, [], ◌++◌, length, take, Result, Ok, Err}
 use Rattle.std.specs.Io.KnownBytes.{Appends, Keeps}
 use Rattle.pf_base.specs.Text.{lines_of, whole_lines}
 use Rattle.pf_source.specs.Asks.{Asks}
@@ -38,10 +38,11 @@ pub record DoesAlone (disk : Disk) (machine : Machine) (line : List ℕ) (after 
   pub is : Does does after reply refused
   pub alone : does.unread ≡ []
 
--- reads of files that may have failed in a call
+-- a read of a file that may have failed in a call
 pub record MayFail (old new : FilesTold) : Type 0 where
   pub more : List (List ℕ)
   pub asks : Asks more old new
+  pub few : length more ≤ 1
 
 abbrev pub cause_of : Stop → Cause
 cause_of stop.WriteFault = Write_failed

@@ -64,10 +64,11 @@ pub record InputPastLimit (old new : SourceTold) : Type 0 where
   pub read : InputToPiece old new
   pub beyond : most_input < length (read.front ++ read.piece)
 
--- some front of the input was read
-pub record SomeInput (old new : SourceTold) : Type 0 where
-  pub front : List ℕ
-  pub reads : Reads old new front
+-- where the reading stood when a run stopped: nothing was read, or a piece was read last, or the whole input was
+pub data StoppedInput (old new : SourceTold) : Type 0 where
+  untouched : new ≡ old → StoppedInput old new
+  to_piece : InputToPiece old new → StoppedInput old new
+  to_end : WholeInput old new → StoppedInput old new
 
 -- the lines that end in a piece, behind what was read before it and within the limit
 abbrev pub lines_ending_in : List ℕ → List ℕ → List (List ℕ)

@@ -1,5 +1,5 @@
 -- The plain machine: the rules in force, as written (pfctl(8): a load replaces them all).
-use Rattle.std.specs.Prelude.{ℕ, Bool, true, false, ◌&&◌, ◌||◌, ◌-◌, not, List, [], Option, Some, None, drop, length, nat_eq, slice_get}
+use Rattle.std.specs.Prelude.{ℕ, Bool, false, ◌&&◌, ◌||◌, ◌-◌, not, List, [], Option, Some, None, drop, length, nat_eq, slice_get}
 use Rattle.std.specs.Char.{is_ascii_digit}
 use Rattle.std.specs.List.{list_all, starts_with}
 use Rattle.std.specs.Str.{bytes_eq}

@@ -12,7 +12,7 @@ use Rattle.pf_runs.specs.Runs.{World, Executes, Stops, Cause, Write_failed, Out_
 use Rattle.pfctl.specs.declared.program.Status.{Status}
 use Rattle.pfctl.specs.declared.program.Status.TheVariants as status
 use Rattle.pfctl.specs.Command.{begins_with_dash}
-use Rattle.pfctl.specs.Input.{InputPastLimit, InputToFault, InputToPiece, SomeInput, WholeInput, last_line, lines_ending_in, most_input, test_lines}
+use Rattle.pfctl.specs.Input.{InputPastLimit, InputToFault, InputToPiece, StoppedInput, WholeInput, last_line, lines_ending_in, most_input, test_lines}
 use Rattle.pfctl.specs.Machine.{Machine, empty_machine}
 use Rattle.pfctl.specs.Step.{step}
 
@@ -145,8 +145,8 @@ HasCause before after status.Done = WholeInput before.source after.source
 HasCause before after status.Refused = WholeInput before.source after.source
 HasCause before after status.Words = after ≡ before
 HasCause before after status.ReadFault = InputToFault before.source after.source
-HasCause before after status.WriteFault = Rose before.sink.faults after.sink.faults × SomeInput before.source after.source
-HasCause before after status.NoMemory = SomeInput before.source after.source
+HasCause before after status.WriteFault = Rose before.sink.faults after.sink.faults × StoppedInput before.source after.source
+HasCause before after status.NoMemory = StoppedInput before.source after.source
 HasCause before after status.TooMuchInput = InputPastLimit before.source after.source
 
 -- the status where the words can't be had from the runtime: without memory, or because one is no text
