@@ -7,7 +7,7 @@ use Rattle.pf_base.specs.Text.{whole_lines, lines_of}
 use Rattle.pf_source.specs.Told.{FilesTold, SinkTold, SourceTold}
 use Rattle.pf_source.specs.Disk.{Disk}
 use Rattle.pf_runs.specs.Runs.{World, Executes, Stops}
-use Rattle.pf_runs.proofs.RunLemmas.{executes_nothing, executes_on}
+use Rattle.pf_runs.specs.RunLaws.{executes_nothing, executes_on}
 use Rattle.pfctl.specs.declared.program.Status.TheVariants.{Words}
 use Rattle.pfctl.specs.declared.session.Session.{Session}
 use Rattle.pfctl.specs.declared.session.Ending.{Ending}
