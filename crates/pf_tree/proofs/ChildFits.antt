@@ -1,5 +1,5 @@
 -- A path with one of its child names added is a path.
-use Rattle.std.proofs.Common.{◌≡◌, ℕ, ◌+◌, ◌<◌, ◌≤◌, Bool, true, false, cond, ◌&&◌, ◌||◌, List, [], ◌∷◌, ◌++◌, map, find, length, Option, Some, None, IfSome, is_some, refl, sym, ap, ◌∙◌, arith, nat_lt, nat_le}
+use Rattle.std.proofs.Common.{◌≡◌, ℕ, ◌<◌, Bool, true, false, cond, ◌&&◌, ◌||◌, List, [], ◌∷◌, ◌++◌, find, length, Option, Some, None, IfSome, is_some, refl, sym, ap, ◌∙◌, arith, nat_lt, nat_le}
 use mathlib.Core.Bool.{true≢false}
 use Rattle.std.specs.Ordering.{eq_by_cmp, is_eq}
 use Rattle.std.specs.Cmp.{tied_itself}
@@ -8,7 +8,6 @@ use Rattle.std.specs.List.{cons_option, filter_map, list_all, list_any}
 use Rattle.std.specs.FinMap as fin
 use Rattle.std.specs.FinMap.{FinMap}
 use borrow.Author.Tests.{lt-ltb}
-use Rattle.std.proofs.lemmas.Map.Text.{is_eq-slice_cmp}
 use Rattle.pf_base.specs.Path.{IsPath, child_path, is_path_name, is_written_name}
 use Rattle.pf_tree.specs.Order.{name_cmp, path_cmp}
 use Rattle.pf_tree.specs.GrownLaws.{name_total, path_total}

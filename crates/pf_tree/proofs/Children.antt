@@ -1,6 +1,5 @@
 -- The names of a node's children that have a payload at or below them.
-use Rattle.std.proofs.Common.{◌≡◌, ℕ, ◌+◌, Bool, true, false, not, cond, ◌&&◌, ◌||◌, ◌==◌, List, [], ◌∷◌, ◌++◌, map, filter, find, length, Option, Some, None, T, refl, sym, ap, subst, ◌∙◌, arith}
-use Rattle.std.specs.declared.cmp.Ordering.{Ordering}
+use Rattle.std.proofs.Common.{◌≡◌, ℕ, Bool, true, false, not, cond, ◌&&◌, ◌||◌, ◌==◌, List, [], ◌∷◌, ◌++◌, map, filter, find, length, Option, Some, None, T, refl, sym, ap, subst, ◌∙◌, arith}
 use Rattle.std.specs.declared.cmp.Ordering.TheVariants.{Less}
 use Rattle.std.specs.declared.ops.Bound.{Bound}
 use Rattle.std.specs.declared.ops.Bound.TheVariants.{Excluded, Unbounded}
@@ -20,7 +19,7 @@ use Rattle.pf_tree.specs.Order.{name_cmp, path_cmp}
 use Rattle.pf_tree.specs.Grown.{entries_below, entries_under, grown, own_entry}
 use Rattle.pf_tree.specs.GrownLaws.{grown_entries, missed, name_same, name_total}
 use Rattle.pf_tree.specs.Meaning.{Planted, planted, shown}
-use Rattle.pf_tree.specs.Paths.{child_names, in_byte_order, is_after, name_behind, next_name}
+use Rattle.pf_tree.specs.Paths.{child_names, in_byte_order, is_after, name_behind}
 use Rattle.pf_tree.proofs.Bare.{not_zero}
 use Rattle.pf_tree.proofs.Nodes.{child_at, is_true_eq}
 

@@ -1,5 +1,5 @@
 -- Paths that begin a path are paths, and so are those that stay in a map.
-use Rattle.std.proofs.Common.{◌≡◌, ℕ, ◌+◌, ◌≤◌, Bool, true, false, ◌&&◌, ◌||◌, List, [], ◌∷◌, length, Option, None, is_some, cond, refl, sym, ap, subst, ◌∙◌, arith}
+use Rattle.std.proofs.Common.{◌≡◌, ℕ, ◌≤◌, Bool, true, false, ◌&&◌, ◌||◌, List, [], ◌∷◌, length, Option, Some, None, is_some, cond, refl, sym, ap, subst, ◌∙◌, arith}
 use mathlib.Core.Bool.{true≢false}
 use Rattle.std.specs.Ordering.{eq_by_cmp}
 use Rattle.std.specs.Cmp.{Equal-is}
@@ -7,7 +7,8 @@ use Rattle.std.specs.FinMap as fin
 use Rattle.std.specs.FinMap.{FinMap}
 use Rattle.pf_tree.specs.Order.{path_cmp}
 use Rattle.pf_tree.specs.GrownLaws.{path_same}
-use Rattle.pf_tree.specs.Meaning.{put_payload}
+use Rattle.std.specs.Option.{unwrap_or}
+use Rattle.pf_tree.specs.Meaning.{NoneBlank, put_payload, shown}
 use Rattle.pf_tree.proofs.Nodes.{put_found, retain_found, stays}
 use Rattle.std.specs.List.{list_all}
 use Rattle.std.specs.Str.{bytes_eq}
@@ -68,3 +69,28 @@ stay_paths m path were q h = each (stays path q) (sym (ap is_some (retain_found 
   each : (b : Bool) → is_some (cond b (fin.get m q) None) ≡ true → IsPath q
   each true h = were q h
   each false h = absurd (true≢false (sym h))
+
+module _ {X : Type 0} (is_blank : X → Bool) where
+  -- the map without payloads has no blank one
+  pub none_of_none : (m : FinMap path_cmp X) → m ≡ fin.empty → NoneBlank is_blank m
+  none_of_none m none path payload h = no_payload m path none (ap is_some h)
+
+  pub shown_is_not_blank : (payload found : X) → shown is_blank payload ≡ Some found → is_blank found ≡ false
+  shown_is_not_blank payload found h = each (is_blank payload) refl h where
+    each : (b : Bool) → is_blank payload ≡ b → (cond b None (Some payload)) ≡ Some found → is_blank found ≡ false
+    each true e h = absurd (true≢false (sym (ap is_some h)))
+    each false e h = subst (λ x. is_blank x ≡ false) (ap (λ o. unwrap_or o payload) h) e
+
+  -- a payload that isn't blank is put at a path
+  pub put_none_blank : (m : FinMap path_cmp X) (path : List (List ℕ)) (payload : X) → NoneBlank is_blank m → NoneBlank is_blank (put_payload m path (shown is_blank payload))
+  put_none_blank m path payload were q p h = each (eq_by_cmp path_cmp q path) (sym (put_found m path (shown is_blank payload) q) ∙ h) where
+    each : (b : Bool) → cond b (shown is_blank payload) (fin.get m q) ≡ Some p → is_blank p ≡ false
+    each true e = shown_is_not_blank payload p e
+    each false e = were q p e
+
+  -- what stays was there before
+  pub stay_none_blank : (m : FinMap path_cmp X) (path : List (List ℕ)) → NoneBlank is_blank m → NoneBlank is_blank (fin.retain_keys m (stays path))
+  stay_none_blank m path were q p h = each (stays path q) (sym (retain_found m path q) ∙ h) where
+    each : (b : Bool) → cond b (fin.get m q) None ≡ Some p → is_blank p ≡ false
+    each true e = were q p e
+    each false e = absurd (true≢false (sym (ap is_some e)))

@@ -1,6 +1,5 @@
 -- The paths of a node's payloads, in path order.
 use Rattle.std.proofs.Common.{◌≡◌, ℕ, Bool, true, false, cond, not, List, [], ◌∷◌, ◌++◌, map, Option, Some, None, refl, sym, ap, ◌∙◌, append_assoc}
-use Rattle.std.specs.Str.{bytes_eq}
 use Rattle.std.specs.List.{flat_map}
 use Rattle.std.specs.List.Sorted.{IsStrictlySortedBy}
 use Rattle.std.specs.Map.{keys_of}
@@ -10,7 +9,7 @@ use Rattle.pf_base.specs.Path.{IsPath, child_path}
 use Rattle.pf_tree.specs.Order.{name_cmp, path_cmp}
 use Rattle.pf_tree.specs.Grown.{entries_below, entries_under, grown, own_entry}
 use Rattle.pf_tree.specs.GrownLaws.{grown_entries}
-use Rattle.pf_tree.specs.Meaning.{Planted, planted, shown}
+use Rattle.pf_tree.specs.Meaning.{shown}
 use Rattle.pf_tree.specs.Paths.{name_behind}
 use Rattle.pf_tree.proofs.Nodes.{same_bytes}
 use Rattle.pf_tree.proofs.Children.{append_none, map-append}

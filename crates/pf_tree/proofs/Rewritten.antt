@@ -1,5 +1,5 @@
 -- What a pass over all children of a node leaves.
-use Rattle.std.proofs.Common.{◌≡◌, ℕ, ◌+◌, ◌<◌, ◌≤◌, Bool, true, false, cond, not, List, [], ◌∷◌, ◌++◌, length, Option, Some, None, refl, sym, ap, subst, ◌∙◌, arith, length-append, if◌then◌else◌}
+use Rattle.std.proofs.Common.{◌≡◌, ℕ, ◌<◌, ◌≤◌, Bool, true, false, cond, not, List, [], ◌∷◌, ◌++◌, length, Option, Some, None, refl, sym, ap, subst, ◌∙◌, arith, length-append, if◌then◌else◌}
 use Rattle.std.specs.declared.cmp.Ordering.TheVariants.{Equal}
 use Rattle.std.specs.Ordering.{eq_by_cmp}
 use Rattle.std.specs.List.{flat_map}
@@ -12,7 +12,6 @@ use Rattle.pf_base.specs.Path.{is_reserved}
 use Rattle.pf_tree.specs.Order.{name_cmp, path_cmp}
 use Rattle.pf_tree.specs.Grown.{entries_below, entries_under, grown, own_entry}
 use Rattle.pf_tree.specs.GrownLaws.{grown_below, grown_entries, grown_own, length-under, path_same, same_everywhere}
-use Rattle.pf_tree.specs.Meaning.{Planted, planted, shown}
 use Rattle.pf_tree.specs.Paths.{is_nameless_below}
 use Rattle.pf_tree.proofs.Nodes.{child_at, found_in, is_true_eq}
 

@@ -1,5 +1,5 @@
 -- What a tree means.
-use Rattle.std.specs.Prelude.{◌≡◌, ℕ, Bool, true, List, refl, if◌then◌else◌, Option, Some, None}
+use Rattle.std.specs.Prelude.{◌≡◌, ℕ, Bool, true, false, List, refl, if◌then◌else◌, Option, Some, None}
 use Rattle.std.specs.Coded.{Coded, code_by, coded×, coded_list, coded_ℕ}
 use Rattle.std.specs.FinMap as fin
 use Rattle.std.specs.FinSet.{FinSet}
@@ -17,10 +17,15 @@ pub record Planted (P : Type 0) : Type 0 where
 abbrev pub is_prepared : {P : Type 0} → Planted P → List (List ℕ) → Bool
 is_prepared tree path = fin.contains_key tree.prepared path
 
--- what the tree speaks of are paths
-pub record HoldsPaths {P : Type 0} (tree : Planted P) : Type 0 where
+-- no payload of the map is blank
+abbrev pub NoneBlank : {P : Type 0} → (P → Bool) → fin.FinMap path_cmp P → Type 0
+NoneBlank {P} is_blank payloads = (path : List (List ℕ)) (payload : P) → fin.get payloads path ≡ Some payload → is_blank payload ≡ false
+
+-- what the tree speaks of are paths, and none of its payloads is blank
+pub record HoldsPaths {P : Type 0} (is_blank : P → Bool) (tree : Planted P) : Type 0 where
   pub payloads : (path : List (List ℕ)) → fin.contains_key tree.payloads path ≡ true → IsPath path
   pub prepared : (path : List (List ℕ)) → is_prepared tree path ≡ true → IsPath path
+  pub shown : NoneBlank is_blank tree.payloads
 
 -- a path is stored as the list of its names
 abbrev pub path_code : Coded (List (List ℕ))

@@ -100,6 +100,12 @@ fn children_come_in_byte_order(rt: HostRuntime) -> Result<(), Fail> {
         last = next;
     }
     assert!(rt; tree.next_child(&main, last.as_ref()).is_none());
+    put(&mut tree, rt.alloc(), b"1/2/3/4/5/6/7/8", 4)?;
+    assert_eq!(rt;
+        tree.next_child(&path(b"1/2/3/4/5/6/7")?, None),
+        Name::new(b"8")
+    );
+    assert!(rt; tree.next_child(&path(b"1/2/3/4/5/6/7/8")?, None).is_none());
     Ok(())
 }
 

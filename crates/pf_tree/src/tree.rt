@@ -3,8 +3,8 @@ ghost use Rattle.std.specs.Prelude.{◌≡◌, ℕ, List as Items, [], ◌∷◌
 ghost use Rattle.std.specs.FinMap as fin;
 ghost use Rattle.std.specs.List.{list_all, list_any};
 ghost use Rattle.std.specs.Option.{option_copied};
-ghost use Rattle.pf_base.specs.Path.{child_path};
-ghost use Rattle.pf_tree.specs.Meaning.{is_prepared, put_payload, shown};
+ghost use Rattle.pf_base.specs.Path.{IsPath, child_path};
+ghost use Rattle.pf_tree.specs.Meaning.{NoneBlank, is_prepared, put_payload, shown};
 ghost use Rattle.pf_tree.specs.Paths.{begins, is_nameless_below, next_name};
 
 use crate::blank::Blank;
@@ -29,13 +29,14 @@ impl<P: Blank> Model for Tree<P> {
 
     ghost view = { λ a. a.root };
 
-    ghost invariant = { λ a. HoldsPaths a.root };
+    ghost invariant = { λ a. HoldsPaths P.is_blank a.root };
 }
 
 impl<P: Blank> Tree<P> {
-    /// The empty tree. It takes no memory.
+    /// The empty tree, in which the path without names alone is prepared. It takes no memory.
     pub fn new(alloc: Global) -> Tree<P>
-        ensures { result.payloads ≡ fin.empty }
+        ensures payloads { result.payloads ≡ fin.empty }
+        ensures prepared { (at : Items (Items ℕ)) → is_prepared result at ≡ begins [] at }
     {
         Tree {
             root: Node::new(alloc),
@@ -85,6 +86,15 @@ impl<P: Blank> Tree<P> {
         ensures prepared { self.new.prepared ≡ self.old.prepared }
     {
         self.root.clear_under(path.names());
+    }
+
+    /// A law: no payload of the tree is blank, and what it has payloads at, or prepared, are paths.
+    pub fn holds_paths(&self)
+        ensures shown { NoneBlank P.is_blank self.now.payloads }
+        ensures payloads { (at : Items (Items ℕ)) → fin.contains_key self.now.payloads at ≡ true → IsPath at }
+        ensures prepared { (at : Items (Items ℕ)) → is_prepared self.now at ≡ true → IsPath at }
+    {
+        let _root = &self.root;
     }
 
     /// All paths of the tree in path order: names compared from the front in byte order, and a path before those

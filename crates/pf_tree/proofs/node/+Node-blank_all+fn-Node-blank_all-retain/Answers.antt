@@ -1,8 +1,7 @@
-use Rattle.std.proofs.Common.{◌≡◌, ◌<◌, ◌∙◌, ap, sym, arith, rules, Some, None, true, if◌then◌else◌}
+use Rattle.std.proofs.Common.{◌≡◌, ◌∙◌, ap, arith, rules, Some, None, if◌then◌else◌}
 use Rattle.std.specs.FinMap as fin
 use Rattle.pf_tree.specs.Grown.{grown}
-use Rattle.pf_tree.specs.Meaning.{shown}
-use Rattle.pf_tree.proofs.Rewritten.{Rewritten, child_less, nothing_grown, rewritten_from_retain, same_grown}
+use Rattle.pf_tree.proofs.Rewritten.{child_less, nothing_grown, rewritten_from_retain, same_grown}
 use Rattle.pf_tree.proofs.node.+Node-blank_all+fn-Node-blank_all-retain.Goals as goal
 
 pub retain-requires : goal.retain-requires

@@ -1,5 +1,5 @@
-use Rattle.std.proofs.Common.{◌≡◌, ◌∙◌, ap, sym, List, ℕ, subst}
-use Rattle.pf_tree.specs.Meaning.{Planted, is_prepared, planted}
+use Rattle.std.proofs.Common.{◌∙◌, ap, sym}
+use Rattle.pf_tree.specs.Meaning.{is_prepared}
 use Rattle.pf_tree.specs.Paths.{begins}
 use Rattle.pf_tree.proofs.Nodes.{branch_payloads, branch_prepared}
 use Rattle.pf_tree.proofs.node.Node.+branch.Goals as goal

@@ -1,4 +1,4 @@
-use Rattle.std.proofs.Common.{◌≡◌, ◌∷◌, ◌∙◌, ap, sym}
+use Rattle.std.proofs.Common.{◌∷◌, ◌∙◌, ap, sym}
 use Rattle.std.specs.FinMap as fin
 use Rattle.std.specs.Box.{with_value}
 use Rattle.pf_tree.specs.Grown.{grown}

@@ -1,4 +1,4 @@
-use Rattle.std.proofs.Common.{◌≡◌, sym, ap, subst, ◌∙◌, Some, None, is_some, true, ◌||◌}
+use Rattle.std.proofs.Common.{sym, ap, subst, ◌∙◌, is_some, ◌||◌}
 use Rattle.std.specs.FinMap as fin
 use Rattle.std.specs.Box.{with_value}
 use Rattle.pf_tree.specs.Order.{path_cmp}

@@ -1,4 +1,4 @@
-use Rattle.std.proofs.Common.{◌≡◌, sym, ap, subst, ◌∙◌, [], Some, None, rules}
+use Rattle.std.proofs.Common.{sym, ap, ◌∙◌, [], Some, None, rules}
 use mathlib.Core.Bool.{true≢false}
 use Rattle.std.specs.FinMap as fin
 use Rattle.std.specs.Box.{with_value}

@@ -1,6 +1,6 @@
-use Rattle.std.proofs.Common.{◌≡◌, [], find, sym, ap, ◌∙◌}
+use Rattle.std.proofs.Common.{find, sym, ap, ◌∙◌}
 use Rattle.std.specs.Option.{option_copied}
-use Rattle.pf_tree.specs.Paths.{child_names, is_after, next_name}
+use Rattle.pf_tree.specs.Paths.{is_after, next_name}
 use Rattle.pf_tree.proofs.Nodes.{no_names}
 use Rattle.pf_tree.proofs.Children.{child_names_through, no_child_names}
 use Rattle.pf_tree.proofs.node.Node.+next_child.Goals as goal

@@ -1,9 +1,9 @@
-use Rattle.std.proofs.Common.{◌≡◌, ◌∙◌, ap, sym, arith, rules, Some, None, true, not, [], if◌then◌else◌}
+use Rattle.std.proofs.Common.{◌≡◌, ◌∙◌, ap, rules, Some, not, [], if◌then◌else◌}
 use Rattle.std.specs.FinMap as fin
 use Rattle.pf_base.specs.Path.{is_reserved}
 use Rattle.pf_tree.specs.Meaning.{shown}
 use Rattle.pf_tree.specs.Paths.{is_nameless_below}
-use Rattle.pf_tree.proofs.Rewritten.{Rewritten, kept_grown, rewritten_from_retain, same_grown}
+use Rattle.pf_tree.proofs.Rewritten.{kept_grown, rewritten_from_retain, same_grown}
 use Rattle.pf_tree.proofs.node.Node.clear_children.Goals as goal
 
 pub returns-clause-payloads : goal.returns-clause-payloads

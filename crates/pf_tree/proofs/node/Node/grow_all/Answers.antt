@@ -1,4 +1,4 @@
-use Rattle.std.proofs.Common.{◌≡◌, ◌+◌, ◌∙◌, ap, sym, true, ◌||◌}
+use Rattle.std.proofs.Common.{◌+◌, ◌∙◌, ap, sym, ◌||◌}
 use Rattle.pf_tree.specs.Meaning.{is_prepared}
 use Rattle.pf_tree.specs.Paths.{begins}
 use Rattle.pf_tree.proofs.Loops.{all_more, any_all, any_more}

@@ -1,4 +1,4 @@
-use Rattle.std.proofs.Common.{◌≡◌, ◌∙◌, ap}
+use Rattle.std.proofs.Common.{◌∙◌, ap}
 use Rattle.std.specs.Option.{option_copied}
 use Rattle.pf_tree.specs.Paths.{next_name}
 use Rattle.pf_tree.proofs.ChildFits.{next_fits}

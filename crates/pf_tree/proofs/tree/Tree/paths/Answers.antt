@@ -1,4 +1,4 @@
-use Rattle.std.proofs.Common.{◌≡◌, ◌++◌, map, ap, ◌∙◌}
+use Rattle.std.proofs.Common.{◌++◌, map, ap, ◌∙◌}
 use Rattle.std.specs.FinMap as fin
 use Rattle.pf_tree.proofs.Listed.{below_main}
 use Rattle.pf_tree.proofs.tree.Tree.paths.Goals as goal
