@@ -1,11 +1,9 @@
 pub mod Cover
-pub mod Network
 pub mod Stretches
 pub mod Values
 pub mod Texts
 pub mod Short
 pub mod Prefixes
-pub mod Equal
 pub mod OneWord
 pub mod Digits
 pub mod Groups

@@ -1,8 +1,7 @@
 -- Printed addresses and prefixes are words of known bytes.
-use Rattle.std.proofs.Common.{◌≡◌, ◌≢◌, ℕ, ◌+◌, ◌<◌, ◌≤◌, ◌^◌, ◌==◌, ◌||◌, IsTrue, Bool, true, false, List, [], ◌∷◌, ◌++◌, length, decimal, All, refl, sym, ap, subst, ◌∙◌, arith, inl, inr, lit<, eq-eqb, ne_eqb}
+use Rattle.std.proofs.Common.{◌≡◌, ◌≢◌, ℕ, ◌≤◌, IsTrue, Bool, true, false, List, [], ◌∷◌, ◌++◌, decimal, All, refl, subst, arith, inl, inr, lit<, eq-eqb, ne_eqb}
 use Rattle.std.specs.Char.{is_ascii_digit}
-use Rattle.std.specs.List.{list_all, slice_split}
-use Rattle.std.specs.Prelude.{codes}
+use Rattle.std.specs.List.{list_all}
 use Rattle.std.proofs.lemmas.Bool.{cases_eq}
 use Rattle.std.proofs.lemmas.Bool.Decides.{nat_tests}
 use Rattle.std.proofs.lemmas.List.Elements.{All-append, All-cons, All-head, All-nil, All-tail, All-weaker}
@@ -16,9 +15,9 @@ use Rattle.pf_addr.specs.declared.addr.Addr.TheVariants.{V4, V6}
 use Rattle.pf_addr.specs.declared.prefix.Prefix.{Prefix}
 use Rattle.pf_addr.specs.Addr.{IsAddr, width}
 use Rattle.pf_addr.specs.PrefixText.{prefix_text}
-use Rattle.pf_addr.specs.Text.{addr_text, last_digits}
+use Rattle.pf_addr.specs.Text.{addr_text}
 use Rattle.pf_addr.specs.Words.{IsOneWord, is_addr_byte, is_prefix_byte}
-use Rattle.pf_addr.specs.Grammar.{IsAddrText, slash}
+use Rattle.pf_addr.specs.Grammar.{slash}
 use Rattle.pf_addr.proofs.Digits.{last_digits-below}
 use Rattle.pf_addr.proofs.Printed.{IsAddrText-addr_text, own}
 use Rattle.pf_addr.proofs.Texts.{text_some}

@@ -1,5 +1,5 @@
 -- What a text says of a prefix, from what it writes.
-use Rattle.std.proofs.Common.{◌≡◌, ℕ, ◌-◌, ◌%◌, ◌^◌, ◌<◌, ◌≤◌, List, Result, Ok, Err, sym, ap, subst, ◌∙◌, arith, inl, inr}
+use Rattle.std.proofs.Common.{◌≡◌, ℕ, ◌<◌, ◌≤◌, List, Result, Ok, Err, sym, ap, subst, ◌∙◌, arith, inl, inr}
 use Rattle.std.specs.Prelude.{◌↔◌}
 use Rattle.std.specs.Result.{IfOk, IsOkAnd}
 use Rattle.std.proofs.lemmas.Bool.{cases_lt}
@@ -8,7 +8,7 @@ use Rattle.pf_addr.specs.declared.prefix.Prefix.{Prefix}
 use Rattle.pf_addr.specs.declared.parse.AddrFault.{AddrFault}
 use Rattle.pf_addr.specs.declared.parse.Masked.{Masked}
 use Rattle.pf_addr.specs.declared.parse.AddrFault.TheVariants.{MaskTooLong}
-use Rattle.pf_addr.specs.Addr.{width, number, network}
+use Rattle.pf_addr.specs.Addr.{width, network}
 use Rattle.pf_addr.specs.Grammar.{IsMasked, Writes}
 use Rattle.pf_addr.specs.PrefixText.{IsMaskTooLong, IsMaskedText, IsNetworkOf, IsPrefixText, IsTooLong}
 use Rattle.pf_addr.specs.PrefixOrder.{Prefix-same}

@@ -19,7 +19,7 @@ use Rattle.pf_addr.specs.Grammar.{IsAddrText, IsNetworkText, IsMask, slash}
 use Rattle.pf_addr.specs.PrefixText.{prefix_text, IsPrefixText}
 use Rattle.pf_addr.proofs.Digits.{length-last_digits, last_digits-value, last_digits-below}
 use Rattle.pf_addr.proofs.Groups.{shortened_text, whole_text}
-use Rattle.pf_addr.proofs.Network.{network-same}
+use Rattle.pf_addr.specs.NetworkLaws.{network-same}
 
 pub IsAddrText-addr_text : (a : Addr) → IsAddr a → IsAddrText (addr_text a) a
 IsAddrText-addr_text (V4 n) h = record {

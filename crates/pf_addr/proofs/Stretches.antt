@@ -1,5 +1,5 @@
 -- Prefixes as stretches, and when one stretch encloses another.
-use Rattle.std.proofs.Common.{◌≡◌, ◌≢◌, ℕ, ◌+◌, ◌-◌, ◌*◌, ◌/◌, ◌%◌, ◌^◌, ◌<◌, ◌≤◌, IsTrue, true, false, ◌==◌, ◌&&◌, nat_le, refl, sym, ap, ◌∙◌, subst, arith, eq-eqb, ne_eqb, inl, inr}
+use Rattle.std.proofs.Common.{◌≡◌, ℕ, ◌+◌, ◌-◌, ◌*◌, ◌/◌, ◌%◌, ◌^◌, ◌<◌, ◌≤◌, IsTrue, true, ◌==◌, ◌&&◌, nat_le, refl, sym, ap, ◌∙◌, subst, arith, eq-eqb, ne_eqb, inl, inr}
 use Rattle.std.specs.Prelude.{◌↔◌}
 use Rattle.std.specs.Cmp.{both_ways}
 use Rattle.std.proofs.lemmas.Bool.{and_parts, and_from, eqb-true, le-leb, leb-true, cases_eq}
@@ -10,7 +10,7 @@ use Rattle.pf_addr.specs.declared.addr.Addr.{Addr}
 use Rattle.pf_addr.specs.declared.addr.Addr.TheVariants.{V4, V6}
 use Rattle.pf_addr.specs.declared.prefix.Prefix.{Prefix}
 use Rattle.pf_addr.specs.declared.stretch.Stretch.{Stretch}
-use Rattle.pf_addr.specs.Addr.{IsAddr, bits_of, family_of, number, width}
+use Rattle.pf_addr.specs.Addr.{IsAddr, bits_of, number, width}
 use Rattle.pf_addr.specs.Prefix as prefixes
 use Rattle.pf_addr.specs.Stretch.{EnclosesAll, IsStretch, contains, encloses, prefix_stretch}
 use Rattle.pf_addr.proofs.Cover.{last_below}
@@ -22,7 +22,7 @@ mask_is b k sum =
     let some = pow_pos b in
     let pos = pow_pos k in
     let form : 2 ^ b * 2 ^ k - 1 ≡ (2 ^ b - 1) * 2 ^ k + (2 ^ k - 1) =
-        subst (λ (x : ℕ). x * 2 ^ k - 1 ≡ (2 ^ b - 1) * 2 ^ k + (2 ^ k - 1)) (omega arith) (split (2 ^ b - 1) (2 ^ k) pos) in
+    subst (λ (x : ℕ). x * 2 ^ k - 1 ≡ (2 ^ b - 1) * 2 ^ k + (2 ^ k - 1)) (omega arith) (split (2 ^ b - 1) (2 ^ k) pos) in
     ap (λ (t : ℕ). (t - 1) / 2 ^ k) wide ∙ ap (λ (t : ℕ). t / 2 ^ k) form ∙ shr_high (2 ^ b - 1) k (2 ^ k - 1) (omega arith)
   where
     split : (x y : ℕ) → 0 < y → (x + 1) * y - 1 ≡ x * y + (y - 1)
@@ -38,16 +38,16 @@ between y n k zero_bits =
     let tops = y / 2 ^ k == n / 2 ^ k in
     both_ways at tops
     (λ (h : at ≡ true).
-      let parts = and_parts (nat_le y n) (nat_le n (y + (2 ^ k - 1))) h in
-      let low : y ≤ n = leb-true _ _ parts.0 in
-      let high : n ≤ y + (2 ^ k - 1) = leb-true _ _ parts.1 in
-      let form : n ≡ y / 2 ^ k * 2 ^ k + (n - y) = omega arith in
-      eq-eqb _ _ (sym (ap (λ (t : ℕ). t / 2 ^ k) form ∙ shr_high (y / 2 ^ k) k (n - y) (omega arith))))
+    let parts = and_parts (nat_le y n) (nat_le n (y + (2 ^ k - 1))) h in
+    let low : y ≤ n = leb-true _ _ parts.0 in
+    let high : n ≤ y + (2 ^ k - 1) = leb-true _ _ parts.1 in
+    let form : n ≡ y / 2 ^ k * 2 ^ k + (n - y) = omega arith in
+    eq-eqb _ _ (sym (ap (λ (t : ℕ). t / 2 ^ k) form ∙ shr_high (y / 2 ^ k) k (n - y) (omega arith))))
     (λ (h : tops ≡ true).
-      let same : y / 2 ^ k ≡ n / 2 ^ k = eqb-true _ _ h in
-      let level : y / 2 ^ k * 2 ^ k ≡ n / 2 ^ k * 2 ^ k = ap (λ (t : ℕ). t * 2 ^ k) same in
-      let rest : n % 2 ^ k < 2 ^ k = mod_below n (2 ^ k) pos in
-      and_from (nat_le y n) (nat_le n (y + (2 ^ k - 1))) (le-leb _ _ (omega arith)) (le-leb _ _ (omega arith)))
+    let same : y / 2 ^ k ≡ n / 2 ^ k = eqb-true _ _ h in
+    let level : y / 2 ^ k * 2 ^ k ≡ n / 2 ^ k * 2 ^ k = ap (λ (t : ℕ). t * 2 ^ k) same in
+    let rest : n % 2 ^ k < 2 ^ k = mod_below n (2 ^ k) pos in
+    and_from (nat_le y n) (nat_le n (y + (2 ^ k - 1))) (le-leb _ _ (omega arith)) (le-leb _ _ (omega arith)))
 
 -- a prefix has the addresses of its stretch
 pub prefix_stretch-contains : (p : Prefix) (a : Addr) → contains (prefix_stretch p) a ≡ prefixes.contains p a

@@ -10,3 +10,5 @@ pub mod Grammar
 pub mod Text
 pub mod PrefixText
 pub mod Words
+pub mod NetworkLaws
+pub mod EqualLaws

@@ -146,6 +146,12 @@ fn prefixes(rt: HostRuntime) -> Result<(), Fail> {
         assert_eq!(rt; put_prefix(&mut out, &prefix), Ok(()), "{text}");
         assert_eq!(rt; out.as_slice(), printed.as_bytes(), "{text}");
         assert_eq!(rt; parse_prefix(out.as_slice()), Ok(prefix), "{text}");
+        if let Some((word, mask)) = text.split_once('/') {
+            let parts = parse_prefix_parts(word.as_bytes(), mask.as_bytes());
+            assert_eq!(rt; parts, Ok(prefix), "{text} in parts");
+            let masked = parse_masked(text.as_bytes())?;
+            assert_eq!(rt; masked.network, prefix, "{text} with its address");
+        }
     }
     Ok(())
 }
@@ -154,8 +160,29 @@ fn prefixes(rt: HostRuntime) -> Result<(), Fail> {
 fn faults(rt: HostRuntime) {
     for (text, fault) in FAULTS {
         assert_eq!(rt; parse_prefix(text.as_bytes()), Err(fault), "{text}");
+        assert_eq!(rt; parse_masked(text.as_bytes()).err(), Some(fault), "{text}");
     }
 }
+
+#[test]
+fn order(rt: HostRuntime) -> Result<(), Fail> {
+    let mut last = parse_prefix(b"0/0")?;
+    for text in ["10/8", "10/24", "10.0.0.0", "10.0.1/24", "::/0", "::1"] {
+        let next = parse_prefix(text.as_bytes())?;
+        assert!(rt; last < next && last.addr <= next.addr, "{text}");
+        last = next;
+    }
+    Ok(())
+}
+
+// The ends of a range, and why they are none.
+const RANGES: [(&str, &str, Option<RangeFault>); 5] = [
+    ("10.0.0.1", "10.0.0.9", None),
+    ("10.0.0.1", "10.0.0.1", None),
+    ("10.0.0.2", "10.0.0.1", Some(RangeFault::LowAboveHigh)),
+    ("10.0.0.1", "::1", Some(RangeFault::TwoFamilies)),
+    ("::1", "10.0.0.1", Some(RangeFault::TwoFamilies)),
+];
 
 #[test]
 fn sets(rt: HostRuntime) -> Result<(), Fail> {
@@ -168,18 +195,27 @@ fn sets(rt: HostRuntime) -> Result<(), Fail> {
             "{wide} and {narrow}"
         );
     }
-    let range = Range {
-        low: Addr::V4(10),
-        high: Addr::V4(20),
-    };
-    for (addr, want) in [
-        (Addr::V4(9), false),
-        (Addr::V4(10), true),
-        (Addr::V4(20), true),
-        (Addr::V4(21), false),
-        (Addr::V6(15), false),
+    for (low, high, fault) in RANGES {
+        let low = parse_addr(low.as_bytes())?;
+        let made = Range::between(&low, &parse_addr(high.as_bytes())?);
+        assert_eq!(rt; made.err(), fault, "{low:?}");
+    }
+    let wide = parse_prefix(b"10.0.0/24")?;
+    let range = Range::between(&parse_addr(b"10.0.0.1")?, &parse_addr(b"10.0.0.9")?)?;
+    let one = Prefix::of(&range.low);
+    assert!(rt; wide.stretch().encloses(&range.stretch()));
+    assert!(rt; !range.stretch().encloses(&wide.stretch()));
+    for (text, in_range, in_one) in [
+        ("10.0.0.0", false, false),
+        ("10.0.0.1", true, true),
+        ("10.0.0.9", true, false),
+        ("10.0.0.10", false, false),
+        ("::a00:1", false, false),
     ] {
-        assert_eq!(rt; range.contains(&addr), want, "{addr:?}");
+        let addr = parse_addr(text.as_bytes())?;
+        let found = (range.contains(&addr), one.contains(&addr));
+        assert_eq!(rt; found, (in_range, in_one), "{text}");
+        assert_eq!(rt; range.stretch().contains(&addr), in_range, "{text}");
     }
     Ok(())
 }

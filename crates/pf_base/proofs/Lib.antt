@@ -1,4 +1,3 @@
-pub mod Cuts
 pub mod Decimals
 pub mod Lines
 pub mod PathGrammar

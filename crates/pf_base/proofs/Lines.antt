@@ -3,7 +3,7 @@ use Rattle.std.proofs.Common.{◌≡◌, ℕ, ◌+◌, Bool, true, List, [], ◌
 use Rattle.std.specs.List.{slice_split}
 use Rattle.std.proofs.lemmas.Bool.{eqb-true}
 use Rattle.pf_base.specs.Text.{is_newline, is_space, but_last, last_part, whole_lines, unfinished, fields_of, IsOneLine, CutsLine, EndsNoLine, LinesGoOn}
-use Rattle.pf_base.proofs.Cuts.{IsFirst, NonePasses, split_at_first, split_none, none_append, split_append, last_is_one, first_part}
+use Rattle.pf_base.specs.CutLaws.{IsFirst, NonePasses, split_at_first, split_none, none_append, split_append, last_is_one, first_part}
 
 but_last_push : {X : Type 0} (p : X → Bool) (part : List X) (xs : List X) → but_last (part ∷ slice_split p xs) ≡ part ∷ but_last (slice_split p xs)
 but_last_push p part xs = let parts = first_part p xs in rw parts.2 refl

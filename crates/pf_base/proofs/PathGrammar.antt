@@ -13,7 +13,7 @@ use Rattle.pf_base.specs.Name.{is_plain_byte}
 use Rattle.pf_base.specs.Path.{is_slash, is_dots, is_path_name, is_reserved, is_written_name, IsPathText, path_text, bad_byte, name_fault, names_fault, path_of_names, read_path}
 use Rattle.pf_base.specs.Text.{is_nothing}
 use Rattle.pf_base.specs.Name.{IsNameText}
-use Rattle.pf_base.proofs.Cuts.{NonePasses, first_of_position, split_none, split_at_first, first_part}
+use Rattle.pf_base.specs.CutLaws.{NonePasses, first_of_position, split_none, split_at_first, first_part}
 use Rattle.pf_base.proofs.PathReads.{or_none, named_without_fault, some_without_fault}
 
 -- no byte of a name is a `/`

@@ -8,7 +8,7 @@ use Rattle.pf_base.specs.declared.path_fault.PathFault.{PathFault}
 use Rattle.pf_base.specs.declared.path_fault.PathFault.TheVariants.{BadByte, TooDeep}
 use Rattle.pf_base.specs.Name.{is_plain_byte}
 use Rattle.pf_base.specs.Path.{is_slash, is_dots, is_path_name, bad_byte, name_fault, names_fault, path_of_names, checked_name, names_behind, bytes_behind}
-use Rattle.pf_base.proofs.Cuts.{IsFirst, none_of_position, split_at_first}
+use Rattle.pf_base.specs.CutLaws.{IsFirst, none_of_position, split_at_first}
 
 pub or_none : {A : Type 0} (a b : Option A) → option_or a b ≡ None → (a ≡ None) × (b ≡ None)
 or_none None b h = (refl, h)

@@ -3,7 +3,7 @@ use Rattle.std.proofs.Common.{◌≡◌, ℕ, zero, suc, ◌+◌, ◌<◌, Bool,
 use Rattle.std.specs.List.{list_all, filter}
 use Rattle.std.specs.Cmp.{first_so, second_so}
 use Rattle.pf_base.specs.Text.{is_blank, is_nothing, words_of}
-use Rattle.pf_base.proofs.Cuts.{IsFirst, NonePasses, split_at_first, split_none}
+use Rattle.pf_base.specs.CutLaws.{IsFirst, NonePasses, split_at_first, split_none}
 
 -- a byte that is no word's
 abbrev is_word_byte : ℕ → Bool

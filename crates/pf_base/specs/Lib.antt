@@ -9,3 +9,4 @@ pub mod Padding
 pub mod Path
 pub mod PathKept
 pub mod Text
+pub mod CutLaws

@@ -1,51 +1,63 @@
 -- One statement after the other.
-use Rattle.std.proofs.Common.{◌≡◌, ℕ, ◌≤◌, List, [], ◌∷◌, ◌++◌, Option, Some, None, Ok, Err, length, refl, ap, sym, ◌∙◌, subst, append_assoc, append-nil, arith}
-use Rattle.std.specs.Prelude.{min, option_map}
-use Rattle.pf_source.specs.Causes.{RoseBy}
-use Rattle.pf_source.specs.Files.{StaysHeld}
-use Rattle.pf_source.specs.Told.{FilesTold, Held, Told, file_of}
+use Rattle.std.proofs.Common.{◌≡◌, ℕ, List, [], ◌++◌, Some, Err, ap, sym, ◌∙◌, append_assoc, append-nil, arith}
+use Rattle.pf_source.specs.Told.{FilesTold, Held}
+use Rattle.pf_source.specs.AskingLaws.{asked_on, nothing_asked}
+use Rattle.pf_source.specs.Disk.{Disk}
+use Rattle.pf_base.specs.declared.fault.Place.{Place}
+use Rattle.pf_token.specs.declared.token.Cause.{Cause}
+use Rattle.pf_token.specs.declared.token.Cause.TheVariants as causes
+use Rattle.pf_token.specs.declared.token.Fault.{Fault as FaultOf}
 use Rattle.pf_lexer.specs.declared.fault.LexFault.{LexFault}
-use Rattle.pf_lexer.specs.Calls.{Added, Asks, FailOnlyAbsent, RunsOut, LacksMemoryIn, StopsWith}
+use Rattle.pf_lexer.specs.Calls.{AsksAndReads, RunsOut, StopsWith, unread_by, unread_from}
 use Rattle.pf_lexer.specs.Going.{IsStopped}
 use Rattle.pf_lexer.specs.ReadSoFar.{ReadSoFar}
-use Rattle.pf_lexer.specs.Reads.{GoesOn}
+use Rattle.pf_lexer.specs.Reads.{Made}
 use Rattle.pf_lexer.specs.Stages.{Standing, Stage, going, failed}
-use Rattle.pf_lexer.specs.Units.{Answer, Answers, Disk, GoesTo, here, further, Leads, Passes}
+use Rattle.pf_lexer.specs.Units.{Answer, Answers, GoesTo, here, further, Leads, Passes, answered, lexical}
 use Rattle.pf_lexer.proofs.StopLemmas.{by_memory}
 
 -- no file was asked for
-pub asks_nothing : (told : FilesTold) (reads : ReadSoFar) → Asks [] told told reads reads
+pub asks_nothing : (told : FilesTold) (reads : ReadSoFar) → AsksAndReads [] told told reads reads
 asks_nothing told reads = record {
+  files = nothing_asked told;
+  made = Made.none;
   grows = record { more = []; is = sym (append-nil reads.names) };
   left = omega arith;
-  held = record { held = refl; steady = refl };
-  faults = record { later = omega arith; by = omega arith };
-  failed = added_none told.failed;
-  steady = λ steady. record { at = λ held is. tt };
-} where
-  added_none : (names : Option (List (List ℕ))) → Added [] names names
-  added_none None = refl
-  added_none (Some names) = ap Some (sym (append-nil names))
+}
+
+-- nor behind a fault
+pub asks_again : (stage : Stage) (first : LexFault) (answer : Answer) (told : FilesTold) (reads : ReadSoFar) → stage ≡ failed first → AsksAndReads (unread_from stage answer) told told reads reads
+asks_again stage first answer told reads is = rw is (asks_nothing told reads)
+
+-- nor at a fault of a statement
+pub asks_answered : (fault : FaultOf) (told : FilesTold) (reads : ReadSoFar) → AsksAndReads (unread_by (answered fault)) told told reads reads
+asks_answered fault told reads = by_cause fault.cause fault.place where
+  by_cause : (cause : Cause) (place : Place) → AsksAndReads (unread_by (lexical cause place)) told told reads reads
+  by_cause causes.BadByte place = asks_nothing told reads
+  by_cause causes.Unterminated place = asks_nothing told reads
+  by_cause (causes.MacroUndefined name) place = asks_nothing told reads
+  by_cause causes.MacroName place = asks_nothing told reads
+  by_cause causes.IncludeDepth place = asks_nothing told reads
+  by_cause causes.TooLarge place = asks_nothing told reads
+  by_cause causes.Syntax place = asks_nothing told reads
+
+-- the readings of one call, and then those of another
+pub made_both : {reads later latest : ReadSoFar} → Made reads later → Made later latest → Made reads latest
+made_both Made.none more = more
+made_both (Made.read name bytes few rest) more = Made.read name bytes few (made_both rest more)
+made_both (Made.refused name rest) more = Made.refused name (made_both rest more)
 
 -- what two calls ask for, of which none failed in the first
-module _ (names : List (List ℕ)) (old mid new : FilesTold) (reads later latest : ReadSoFar) (first : Asks [] old mid reads later) (second : Asks names mid new later latest) where
-  same_names : mid.failed ≡ old.failed
-  same_names = first.failed ∙ nothing_added old.failed where
-    nothing_added : (told : Option (List (List ℕ))) → option_map (λ (before : List (List ℕ)). before ++ []) told ≡ told
-    nothing_added None = refl
-    nothing_added (Some before) = ap Some (append-nil before)
-
+module _ (names : List (List ℕ)) (old mid new : FilesTold) (reads later latest : ReadSoFar) (first : AsksAndReads [] old mid reads later) (second : AsksAndReads names mid new later latest) where
   pub told_later : (held : Held) → old.held ≡ Some held → mid.held ≡ Some held
-  told_later held told = first.held.held ∙ told
+  told_later held told = first.files.held.held ∙ told
 
-  pub asks_both : Asks names old new reads latest
+  pub asks_both : AsksAndReads names old new reads latest
   asks_both = record {
+    files = asked_on names old mid new first.files second.files;
+    made = made_both first.made second.made;
     grows = record { more = first.grows.more ++ second.grows.more; is = second.grows.is ∙ ap (λ l. l ++ second.grows.more) first.grows.is ∙ append_assoc reads.names first.grows.more second.grows.more };
     left = omega (arith, first.left, second.left);
-    held = record { held = second.held.held ∙ first.held.held; steady = second.held.steady ∙ first.held.steady };
-    faults = record { later = omega (arith, first.faults.later, second.faults.later); by = omega (arith, first.faults.later, second.faults.by) };
-    failed = second.failed ∙ ap (option_map (λ (before : List (List ℕ)). before ++ names)) same_names;
-    steady = λ steady. record { at = λ held told. (second.steady (first.held.steady ∙ steady)).at held (told_later held told) };
   }
 
 -- a statement more

@@ -1,5 +1,8 @@
 pub mod FaultLemmas
+pub mod Finding
 pub mod GoingLemmas
+pub mod Leading
+pub mod Numbers
 pub mod OneDeed
 pub mod OneEnd
 pub mod OneLead
@@ -12,3 +15,4 @@ pub mod PlaceLemmas
 pub mod StepLemmas
 pub mod StopLemmas
 pub mod ValueTexts
+pub mod Within

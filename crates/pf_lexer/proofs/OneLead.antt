@@ -1,22 +1,20 @@
 -- What comes next of a unit is one thing, where each file that can't be read isn't there.
-use Rattle.std.proofs.Common.{◌≡◌, ℕ, List, [], ◌∷◌, Option, Some, None, Result, Ok, Err, length, refl, ap, sym, ◌∙◌, subst}
+use Rattle.std.proofs.Common.{◌≡◌, ℕ, List, [], ◌∷◌, Option, Some, None, Result, Ok, Err, refl, ap, sym, ◌∙◌, subst}
+use Rattle.pf_source.specs.Disk.{AreAbsent, Disk}
 use Rattle.pf_token.specs.declared.cell.Cell.{Cell}
 use Rattle.pf_token.specs.declared.token.Fault.{Fault as FaultOf}
 use Rattle.pf_token.specs.Cells.{cells_from}
-use Rattle.pf_token.specs.Macros.{Table}
 use Rattle.pf_token.specs.Pieces.{NextIsOne}
-use Rattle.pf_lexer.specs.declared.deed.Deed.{Deed}
-use Rattle.pf_lexer.specs.declared.deed.Deed.TheVariants.{Nothing, Hands, Includes, Ends, Fails}
+use Rattle.pf_lexer.specs.declared.deed.Deed.TheVariants.{Includes}
 use Rattle.pf_lexer.specs.declared.deed.Statement.{Statement}
 use Rattle.pf_lexer.specs.declared.fault.LexFault.{LexFault}
 use Rattle.pf_lexer.specs.declared.fault.LexFault.TheVariants as faults
-use Rattle.pf_lexer.specs.Calls.{AreAbsent, unread_in}
-use Rattle.pf_lexer.specs.Deeds.{Does}
+use Rattle.pf_lexer.specs.Calls.{unread_in}
 use Rattle.pf_lexer.specs.ReadSoFar.{ReadSoFar}
 use Rattle.pf_lexer.specs.Reads.{absent, given, too_large, has_numbered, has_read, look_of, look_up}
 use Rattle.pf_lexer.specs.Stages.{Standing, Stage, going, failed}
-use Rattle.pf_lexer.specs.Units.{Answer, Answers, Disk, GoesTo, Leads, Opens, opened, large, unread, Passes, answered}
-use Rattle.pf_lexer.proofs.OneDeed.{does_one, SameDeed}
+use Rattle.pf_lexer.specs.Units.{Answer, Answers, GoesTo, Leads, Opens, opened, large, unread, Passes, answered}
+use Rattle.pf_lexer.proofs.OneDeed.{does_one}
 
 module _ (disk : Disk) where
   -- a file that isn't there is neither given nor too large

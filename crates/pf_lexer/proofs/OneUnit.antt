@@ -1,6 +1,6 @@
 -- The statements of a unit are one list.
 use Rattle.std.proofs.Common.{◌≡◌, ℕ, List, [], ◌∷◌, Option, Some, None, Ok, Err, refl, ap, sym, ◌∙◌, subst}
-use Rattle.pf_token.specs.declared.cell.Cell.{Cell}
+use Rattle.pf_source.specs.Disk.{Disk}
 use Rattle.pf_token.specs.Macros.{Table}
 use Rattle.pf_token.specs.Pieces.{NextIsOne}
 use Rattle.pf_lexer.specs.declared.deed.Statement.{Statement}
@@ -8,7 +8,7 @@ use Rattle.pf_lexer.specs.declared.fault.LexFault.{LexFault}
 use Rattle.pf_lexer.specs.Calls.{IsTrueTo}
 use Rattle.pf_lexer.specs.ReadSoFar.{ReadSoFar}
 use Rattle.pf_lexer.specs.Stages.{Stage}
-use Rattle.pf_lexer.specs.Units.{Begins, Disk, Handed, Leads, Opens, UnitOf, start_in}
+use Rattle.pf_lexer.specs.Units.{Begins, Handed, Leads, Opens, UnitOf, start_in}
 use Rattle.pf_lexer.proofs.OneLead.{leads_one, opens_one}
 
 module _ (disk : Disk) (law : (values : List ℕ → Option (List ℕ)) → NextIsOne values) where

@@ -1,22 +1,24 @@
 -- What comes of reading a file.
-use Rattle.std.proofs.Common.{◌≡◌, ℕ, ◌+◌, ◌*◌, ◌-◌, ◌^◌, ◌<◌, ◌≤◌, Bool, true, false, cond, List, [], ◌∷◌, length, Option, Some, Ok, Err, refl, ap, sym, ◌∙◌, subst, arith}
+use Rattle.std.proofs.Common.{◌≡◌, ℕ, ◌+◌, ◌*◌, ◌-◌, ◌^◌, ◌≤◌, Bool, true, false, cond, List, [], ◌∷◌, length, Some, Result, Ok, Err, IfOk, refl, ap, sym, ◌∙◌, subst, arith}
 use Rattle.std.specs.Prelude.{◌==◌, ◌&&◌, nat_lt, slice_get, min}
 use Rattle.std.proofs.lemmas.Bool.{and_from, lt-ltb}
 use Rattle.std.proofs.lemmas.Option.{slice_get_within}
 use Rattle.pf_base.specs.declared.fault.Place.{Place}
+use Rattle.pf_source.specs.Asks.{Asks}
+use Rattle.pf_source.specs.Disk.{Disk}
+use Rattle.pf_source.specs.Told.{FilesTold}
 use Rattle.pf_token.specs.declared.cell.Cell.{Cell}
 use Rattle.pf_token.specs.Cells.{are_in, below, cells_from, place_after}
 use Rattle.pf_token.specs.Reading.{weight}
-use Rattle.pf_lexer.specs.declared.fault.LexFault.{LexFault}
 use Rattle.pf_lexer.specs.declared.fault.LexFault.TheVariants as faults
 use Rattle.pf_lexer.specs.declared.reads.ReadFile.{ReadFile}
 use Rattle.pf_lexer.specs.declared.reads.ReadsFault.{ReadsFault}
 use Rattle.pf_lexer.specs.declared.reads.ReadsFault.TheVariants as reading
-use Rattle.pf_lexer.specs.Calls.{IsNumbered, IsUnopened}
+use Rattle.pf_lexer.specs.Calls.{AsksAndReads, IsNumbered, IsUnopened, unread_by}
 use Rattle.pf_lexer.specs.Going.{unopened}
 use Rattle.pf_lexer.specs.ReadSoFar.{ReadSoFar}
-use Rattle.pf_lexer.specs.Reads.{IfNamed, IsLook, after_answer, given, has_read, look_up}
-use Rattle.pf_lexer.specs.Units.{Disk, Opens, opened, large, unread}
+use Rattle.pf_lexer.specs.Reads.{GoesOn, IfNamed, IsLook, Made, after_answer, given, has_read, look_up, read_limit, unread_of}
+use Rattle.pf_lexer.specs.Units.{Opens, opened, large, unread}
 
 module _ (disk : Disk) (name : List ℕ) (reads later : ReadSoFar) where
   pub opens_file : (number : ℕ) (bytes : List ℕ) (cells : List Cell) → look_up disk reads name ≡ given number bytes → cells ≡ cells_from (record { file = number; line = 1 }) bytes → later ≡ has_read reads name bytes
@@ -39,7 +41,7 @@ none_numbered names name reading.NoMemory named = tt
 after_in : (count : ℕ) (place : Place) (byte : ℕ) → nat_lt place.file count ≡ true → nat_lt (place_after place byte).file count ≡ true
 after_in count place byte e = elim (byte == 10) as (λ (b : Bool). nat_lt (cond b (below place) place).file count ≡ true) [ true ↦ e | false ↦ e ]
 
-cells_in : (count : ℕ) (place : Place) (text : List ℕ) → nat_lt place.file count ≡ true → are_in count (cells_from place text) ≡ true
+pub cells_in : (count : ℕ) (place : Place) (text : List ℕ) → nat_lt place.file count ≡ true → are_in count (cells_from place text) ≡ true
 unfolding cells_from
 cells_in count place [] e = refl
 cells_in count place (byte ∷ []) e = and_from (nat_lt place.file count) true e refl
@@ -75,3 +77,25 @@ file_weight cells number text left later is after few =
     let total = cells_weight (record { file = number; line = 1 }) text in
     let all : later + length text ≡ left = omega arith in
     omega (arith, ap weight is)
+
+-- readings take of the bytes that are left
+made_left : {reads later : ReadSoFar} → Made reads later → later.left ≤ reads.left
+made_left Made.none = omega arith
+made_left (Made.read name bytes few rest) = let less = made_left rest in omega arith
+made_left (Made.refused name rest) = made_left rest
+
+pub asks_made : (names : List (List ℕ)) (old new : FilesTold) (reads later : ReadSoFar) → Asks names old new → Made reads later → GoesOn reads.names later.names → AsksAndReads names old new reads later
+asks_made names old new reads later asks made grows = record { files = asks; made = made; grows = grows; left = made_left made }
+
+-- the reading that was made
+pub made_by : (reads later : ReadSoFar) (name : List ℕ) (result : Result ReadFile ReadsFault) → later ≡ after_answer reads name result → IfOk result (λ (file : ReadFile). length file.text ≤ read_limit reads.left) → Made reads later
+made_by reads later name (Ok file) after few = subst (λ (r : ReadSoFar). Made reads r) (sym after) (Made.read name file.text few Made.none)
+made_by reads later name (Err reading.Failed) after few = subst (λ (r : ReadSoFar). Made reads r) (sym after) Made.none
+made_by reads later name (Err (reading.TooLarge number)) after few = subst (λ (r : ReadSoFar). Made reads r) (sym after) (Made.refused name Made.none)
+made_by reads later name (Err reading.NoMemory) after few = subst (λ (r : ReadSoFar). Made reads r) (sym after) Made.none
+
+-- the name of the reading that failed
+pub asks_unopened : (name : List ℕ) (fault : ReadsFault) (old new : FilesTold) (reads later : ReadSoFar) → Asks (unread_of name (Err fault)) old new → Made reads later → GoesOn reads.names later.names → AsksAndReads (unread_by (unopened name fault)) old new reads later
+asks_unopened name reading.Failed old new reads later asks made grows = asks_made (name ∷ []) old new reads later asks made grows
+asks_unopened name (reading.TooLarge number) old new reads later asks made grows = asks_made [] old new reads later asks made grows
+asks_unopened name reading.NoMemory old new reads later asks made grows = asks_made [] old new reads later asks made grows

@@ -1,5 +1,5 @@
 -- What a statement does stands in the files of the cells that it is made of.
-use Rattle.std.proofs.Common.{◌≡◌, ℕ, ◌<◌, ◌-◌, Bool, true, false, cond, List, [], ◌∷◌, ◌++◌, Option, Some, None, length, zero, suc, refl, ap, sym, ◌∙◌, subst}
+use Rattle.std.proofs.Common.{◌≡◌, ℕ, ◌<◌, ◌-◌, Bool, true, false, List, [], ◌∷◌, ◌++◌, Option, Some, None, length, zero, suc, refl, ◌∙◌, subst}
 use Rattle.std.specs.Prelude.{◌&&◌, nat_lt, nat_le, codes, if◌then◌else◌, slice_get}
 use Rattle.std.specs.List.{list_all}
 use Rattle.std.proofs.lemmas.Bool.{and_parts, and_from, ltb-true}
@@ -20,7 +20,7 @@ use Rattle.pf_lexer.specs.declared.deed.Deed.{Deed}
 use Rattle.pf_lexer.specs.Calls.{AreNumbered}
 use Rattle.pf_lexer.specs.Closes.{is_long}
 use Rattle.pf_lexer.specs.Deeds.{Does, tokens_in}
-use Rattle.pf_lexer.specs.Faults.{IncludeParts, Parts, decided, definition_faults, definition_of, earlier, faults_of, has_form, include_among, include_faults, include_of, is_large, is_macro_name, length_fault, most_includes, names_file, token_faults, too_large_at, unless, unless_defines}
+use Rattle.pf_lexer.specs.Faults.{IncludeParts, Parts, decided, definition_faults, definition_of, earlier, faults_of, has_form, include_among, include_faults, include_of, is_macro_name, length_fault, most_includes, names_file, token_faults, too_large_at, unless, unless_defines}
 use Rattle.pf_lexer.specs.Going.{DeedStaysIn}
 use Rattle.pf_lexer.specs.Statements.{Ends, at_end, at_newline, skipped, at_body, too_long, taken}
 

@@ -1,7 +1,8 @@
 -- What one statement makes of a unit.
-use Rattle.std.proofs.Common.{◌≡◌, ℕ, ◌<◌, ◌≤◌, true, false, List, [], ◌∷◌, Option, Some, None, Ok, Err, length, length-append, refl, ap, sym, ◌∙◌, subst, arith}
+use Rattle.std.proofs.Common.{◌≡◌, ℕ, ◌≤◌, true, false, List, [], ◌∷◌, Option, Some, None, Ok, Err, length, length-append, refl, ap, sym, ◌∙◌, subst, arith}
 use Rattle.std.specs.Prelude.{nat_lt}
 use Rattle.std.proofs.lemmas.Bool.{and_parts, and_from, ltb-true, lt-ltb}
+use Rattle.pf_source.specs.Disk.{Disk}
 use Rattle.pf_token.specs.declared.cell.Cell.{Cell}
 use Rattle.pf_token.specs.declared.token.Fault.{Fault as FaultOf}
 use Rattle.pf_token.specs.Cells.{are_in}
@@ -16,8 +17,8 @@ use Rattle.pf_lexer.specs.Deeds.{Does}
 use Rattle.pf_lexer.specs.Going.{CutAt, before, behind, DeedStaysIn, IsCut, IsFoundNumbered, IsStopped, Leaves}
 use Rattle.pf_lexer.specs.ReadSoFar.{ReadSoFar}
 use Rattle.pf_lexer.specs.Reads.{GoesOn}
-use Rattle.pf_lexer.specs.Stages.{Standing, Stage, going, failed}
-use Rattle.pf_lexer.specs.Units.{Answers, Disk, GoesTo, here, further, Opens, Passes, answered}
+use Rattle.pf_lexer.specs.Stages.{Standing, going, failed}
+use Rattle.pf_lexer.specs.Units.{Answers, here, further, Opens, Passes, answered}
 use Rattle.pf_lexer.proofs.StopLemmas.{by_memory, other_than_memory}
 
 -- memory ran out before the statement

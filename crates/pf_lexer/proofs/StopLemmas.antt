@@ -1,6 +1,7 @@
 -- How a unit stops.
 use Rattle.std.proofs.Common.{◌≡◌, ℕ, ◌<◌, List, Ok, Err, refl, sym, subst, ⊎_elim}
 use Rattle.pf_base.specs.declared.fault.Place.{Place}
+use Rattle.pf_source.specs.Disk.{Disk}
 use Rattle.pf_token.specs.declared.cell.Cell.{Cell}
 use Rattle.pf_token.specs.declared.token.Cause.{Cause}
 use Rattle.pf_token.specs.declared.token.Cause.TheVariants as causes
@@ -10,7 +11,7 @@ use Rattle.pf_lexer.specs.declared.fault.LexFault.TheVariants.{BadByte, Untermin
 use Rattle.pf_lexer.specs.Calls.{ByMemory, IsAgain, IsNumbered, IsUnopened, LacksMemory, LacksMemoryIn, StopsWith}
 use Rattle.pf_lexer.specs.Going.{CutAt, before, behind, IsCut}
 use Rattle.pf_lexer.specs.ReadSoFar.{ReadSoFar}
-use Rattle.pf_lexer.specs.Units.{Disk, Leads, Opens, answered, lexical}
+use Rattle.pf_lexer.specs.Units.{Leads, Opens, answered, lexical}
 use Rattle.pf_lexer.specs.Stages.{Stage, failed}
 
 -- what follows from either follows from the one that holds

@@ -1,19 +1,17 @@
 -- What a call of a lexer tells, whatever the files tell.
-use Rattle.std.specs.Prelude.{◌≡◌, ℕ, ◌<◌, ◌≤◌, true, List, [], ◌∷◌, ◌++◌, length, Option, Some, None, Result, Ok, Err, option_map, ◌⊎◌}
-use Rattle.pf_base.specs.declared.fault.Place.{Place}
-use Rattle.pf_source.specs.Causes.{RoseBy}
-use Rattle.pf_source.specs.Files.{StaysHeld}
-use Rattle.pf_source.specs.Told.{FilesTold, Told, file_of}
+use Rattle.std.specs.Prelude.{◌≡◌, ℕ, ◌<◌, ◌≤◌, true, List, [], ◌∷◌, Option, Some, None, Result, Ok, Err, ◌⊎◌}
+use Rattle.pf_source.specs.Asks.{Asks}
+use Rattle.pf_source.specs.Disk.{AreAbsent, Disk}
+use Rattle.pf_source.specs.Told.{FilesTold}
 use Rattle.pf_token.specs.declared.cell.Cell.{Cell}
 use Rattle.pf_token.specs.declared.token.Token.{Token}
 use Rattle.pf_token.specs.Cells.{are_in}
-use Rattle.pf_lexer.specs.declared.deed.Statement.{Statement}
 use Rattle.pf_lexer.specs.declared.fault.LexFault.{LexFault}
 use Rattle.pf_lexer.specs.declared.fault.LexFault.TheVariants as faults
 use Rattle.pf_lexer.specs.ReadSoFar.{ReadSoFar}
-use Rattle.pf_lexer.specs.Reads.{GoesOn}
+use Rattle.pf_lexer.specs.Reads.{GoesOn, Made}
 use Rattle.pf_lexer.specs.Stages.{Standing, Stage, going, failed}
-use Rattle.pf_lexer.specs.Units.{Answer, Disk, GoesTo, Leads, Opens}
+use Rattle.pf_lexer.specs.Units.{Answer, GoesTo, Leads, Opens}
 
 -- the name of the file that a fault says can't be read
 abbrev pub unread_by : LexFault → List (List ℕ)
@@ -32,31 +30,17 @@ unread_in (Ok x) = []
 unread_in (Err fault) = unread_by fault
 
 -- the names of the reads that failed in a call: where a fault comes again, none did
-abbrev pub failed_names : Stage → Answer → List (List ℕ)
-failed_names (going unit) answer = unread_in answer
-failed_names (failed fault) answer = []
+abbrev pub unread_from : Stage → Answer → List (List ℕ)
+unread_from (going unit) answer = unread_in answer
+unread_from (failed fault) answer = []
 
--- none of these files is there
-abbrev pub AreAbsent : Disk → List (List ℕ) → Type 0
-AreAbsent disk [] = Unit {0}
-AreAbsent disk (name ∷ names) = (disk name ≡ None) × AreAbsent disk names
-
--- over steady files a read fails only for an absent name
-abbrev pub FailOnlyAbsent : FilesTold → List (List ℕ) → Type 0
-FailOnlyAbsent old names = old.steady ≡ true → Told old.held (λ held. AreAbsent (file_of held) names)
-
--- where the list of failed reads is told, it grows by these names at its end
-abbrev pub Added : List (List ℕ) → Option (List (List ℕ)) → Option (List (List ℕ)) → Type 0
-Added names old new = new ≡ option_map (λ before. before ++ names) old
-
--- What one call asks of the files, and what the reads are after it: the files of these names couldn't be read.
-pub record Asks (names : List (List ℕ)) (old new : FilesTold) (reads later : ReadSoFar) : Type 0 where
+-- What one call asks of the files, and what the reads are after it: they hold the readings that were made, also after a
+-- fault, and the files of these names couldn't be read.
+pub record AsksAndReads (names : List (List ℕ)) (old new : FilesTold) (reads later : ReadSoFar) : Type 0 where
+  pub files : Asks names old new
+  pub made : Made reads later
   pub grows : GoesOn reads.names later.names
   pub left : later.left ≤ reads.left
-  pub held : StaysHeld old new
-  pub faults : RoseBy (length names) old.faults new.faults
-  pub failed : Added names old.failed new.failed
-  pub steady : FailOnlyAbsent old names
 
 -- the one for want of memory, the other for each other fault
 abbrev pub ByMemory : LexFault → Type 0 → Type 0 → Type 0

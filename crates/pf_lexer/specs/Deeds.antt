@@ -1,5 +1,5 @@
 -- What the next statement of a file does. pf.conf(5), its introduction and MACROS
-use Rattle.std.specs.Prelude.{◌≡◌, ℕ, false, List, [], ◌∷◌, Option, Some, None}
+use Rattle.std.specs.Prelude.{◌≡◌, ℕ, false, List, [], ◌∷◌, Some, None}
 use Rattle.pf_token.specs.declared.cell.Cell.{Cell}
 use Rattle.pf_token.specs.declared.token.Token.{Token as TokenOf}
 use Rattle.pf_token.specs.declared.token.Fault.{Fault as FaultOf}

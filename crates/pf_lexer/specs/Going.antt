@@ -1,5 +1,6 @@
 -- How the code goes on from statement to statement.
-use Rattle.std.specs.Prelude.{◌≡◌, Bool, true, false, ℕ, ◌+◌, ◌*◌, ◌^◌, ◌<◌, ◌≤◌, List, [], ◌∷◌, Option, Some, None, Result, Ok, Err}
+use Rattle.std.specs.Prelude.{◌≡◌, Bool, true, false, ℕ, ◌+◌, ◌*◌, ◌^◌, ◌<◌, List, [], ◌∷◌, Option, Some, None, Result, Ok, Err}
+use Rattle.pf_source.specs.Disk.{Disk}
 use Rattle.pf_token.specs.declared.cell.Cell.{Cell}
 use Rattle.pf_token.specs.Cells.{are_in}
 use Rattle.pf_token.specs.Reading.{weight}
@@ -16,7 +17,7 @@ use Rattle.pf_lexer.specs.declared.unit.Turn.TheVariants.{Passed, Over}
 use Rattle.pf_lexer.specs.declared.unit.Turn.TheVariants as turns
 use Rattle.pf_lexer.specs.Calls.{AreNumbered, ByMemory, IsNumbered, RunsOut, unread_by}
 use Rattle.pf_lexer.specs.ReadSoFar.{ReadSoFar}
-use Rattle.pf_lexer.specs.Units.{Answers, Disk, Opens, Passes}
+use Rattle.pf_lexer.specs.Units.{Answers, Opens, Passes}
 use Rattle.pf_lexer.specs.Stages.{Standing, Stage, going, failed}
 
 -- the cells behind a statement: nothing more is read behind a fault

@@ -1,5 +1,6 @@
 pub mod Calls
 pub mod Closes
+pub mod Coming
 pub mod Deeds
 pub mod Faults
 pub mod Going

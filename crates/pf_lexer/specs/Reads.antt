@@ -1,8 +1,8 @@
 -- What one load reads: its files, numbered in the order of their first readings, and the bytes that it may still read.
-use Rattle.std.specs.Prelude.{◌≡◌, ℕ, ◌-◌, ◌++◌, true, List, [], ◌∷◌, length, min, nat_le, slice_get, Option, Some, None, Result, Ok, Err, option_map, if◌then◌else◌}
+use Rattle.std.specs.Prelude.{◌≡◌, ℕ, ◌-◌, ◌≤◌, ◌++◌, List, [], ◌∷◌, length, min, nat_le, slice_get, Option, Some, None, Result, Ok, Err, if◌then◌else◌}
 use Rattle.std.specs.List.{list_any, position_or_len}
 use Rattle.std.specs.Str.{bytes_eq}
-use Rattle.pf_source.specs.Told.{FilesTold, Told, file_of}
+use Rattle.pf_source.specs.Disk.{Disk}
 use Rattle.pf_lexer.specs.declared.reads.ReadFile.{ReadFile}
 use Rattle.pf_lexer.specs.declared.reads.ReadsFault.{ReadsFault}
 use Rattle.pf_lexer.specs.declared.reads.ReadsFault.TheVariants as faults
@@ -28,6 +28,18 @@ has_read reads name bytes = record { names = with_name reads.names name; left = 
 abbrev pub has_numbered : ReadSoFar → List ℕ → ReadSoFar
 has_numbered reads name = record { names = with_name reads.names name; left = reads.left }
 
+-- From some reads to later ones, these readings were made, one after the other, and no others: of a file, which was no
+-- larger than it may be, or of one that was too large. A failed reading changes nothing.
+pub data Made : ReadSoFar → ReadSoFar → Type 0 where
+  none : {reads : ReadSoFar} → Made reads reads
+  read : {reads later : ReadSoFar} (name bytes : List ℕ)
+      → length bytes ≤ read_limit reads.left
+      → Made (has_read reads name bytes) later
+      → Made reads later
+  refused : {reads later : ReadSoFar} (name : List ℕ)
+      → Made (has_numbered reads name) later
+      → Made reads later
+
 -- what a disk answers to a reading: no such file, a file that is too large, with its number, or its number and its bytes
 pub data Look : Type 0 where
   absent : Look
@@ -39,7 +51,7 @@ look_of reads name None = absent
 look_of reads name (Some bytes) = if nat_le (length bytes) (read_limit reads.left) then given (number_of reads.names name) bytes else too_large (number_of reads.names name)
 
 -- a reading of this name over a disk, which gives the bytes of a name or has no such file
-abbrev pub look_up : (List ℕ → Option (List ℕ)) → ReadSoFar → List ℕ → Look
+abbrev pub look_up : Disk → ReadSoFar → List ℕ → Look
 look_up disk reads name = look_of reads name (disk name)
 
 -- the answer is the disk's; a reading may always fail, and memory may be short
@@ -75,20 +87,9 @@ pub record GoesOn (old new : List (List ℕ)) : Type 0 where
   pub more : List (List ℕ)
   pub is : new ≡ old ++ more
 
--- the names of the readings that failed in a call
-abbrev pub failed_names : List ℕ → Result ReadFile ReadsFault → List (List ℕ)
-failed_names name (Ok file) = []
-failed_names name (Err faults.Failed) = name ∷ []
-failed_names name (Err (faults.TooLarge number)) = []
-failed_names name (Err faults.NoMemory) = []
-
--- the list of failed reads, where it is told, grows by the name at its end exactly where the reading failed
-abbrev pub AddsFailed : List ℕ → Result ReadFile ReadsFault → Option (List (List ℕ)) → Option (List (List ℕ)) → Type 0
-AddsFailed name result old new = new ≡ option_map (λ names. names ++ failed_names name result) old
-
--- over steady files a reading fails only for an absent name
-abbrev pub FailsOnlyAbsent : FilesTold → List ℕ → Result ReadFile ReadsFault → Type 0
-FailsOnlyAbsent old name (Ok file) = Unit {0}
-FailsOnlyAbsent old name (Err faults.Failed) = old.steady ≡ true → Told old.held (λ held. file_of held name ≡ None)
-FailsOnlyAbsent old name (Err (faults.TooLarge number)) = Unit {0}
-FailsOnlyAbsent old name (Err faults.NoMemory) = Unit {0}
+-- the name of the reading that failed in a call
+abbrev pub unread_of : List ℕ → Result ReadFile ReadsFault → List (List ℕ)
+unread_of name (Ok file) = []
+unread_of name (Err faults.Failed) = name ∷ []
+unread_of name (Err (faults.TooLarge number)) = []
+unread_of name (Err faults.NoMemory) = []

@@ -1,6 +1,7 @@
 -- The statements of a unit: a file, with each include replaced by that file's statements. pf.conf(5), its introduction
 use Rattle.std.specs.Prelude.{◌≡◌, ℕ, List, [], ◌∷◌, length, Option, Some, None, Result, Ok, Err}
 use Rattle.pf_base.specs.declared.fault.Place.{Place}
+use Rattle.pf_source.specs.Disk.{Disk}
 use Rattle.pf_token.specs.declared.cell.Cell.{Cell}
 use Rattle.pf_token.specs.declared.token.Cause.{Cause}
 use Rattle.pf_token.specs.declared.token.Cause.TheVariants as causes
@@ -15,10 +16,6 @@ use Rattle.pf_lexer.specs.Deeds.{Does}
 use Rattle.pf_lexer.specs.ReadSoFar.{ReadSoFar}
 use Rattle.pf_lexer.specs.Reads.{given, has_numbered, has_read, look_up, too_large}
 use Rattle.pf_lexer.specs.Stages.{Standing, Stage, going, failed}
-
--- What files hold: the bytes under each name, or None where a read fails
-abbrev pub Disk : Type 0
-Disk = List ℕ → Option (List ℕ)
 
 -- a statement, or None at the end of the unit, or a fault
 abbrev pub Answer : Type 0

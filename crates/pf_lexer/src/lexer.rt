@@ -1,12 +1,10 @@
 //! The statements of a unit, one after the other: a file, with each include replaced by that file's statements, pf.conf(5).
-ghost use Rattle.std.specs.Prelude.{◌≡◌, ℕ, ◌<◌, ◌≤◌, None, Option, List, IfOk, IfErr, OnSome, length};
-ghost use Rattle.pf_source.specs.Causes.{RoseBy};
-ghost use Rattle.pf_source.specs.Files.{StaysHeld};
+ghost use Rattle.std.specs.Prelude.{◌≡◌, ℕ, ◌*◌, ◌^◌, ◌<◌, ◌≤◌, None, Option, List, IfOk, IfErr, OnSome, length};
 ghost use Rattle.pf_source.specs.Told.{Told, file_of};
-ghost use Rattle.pf_lexer.specs.Calls.{Added, AnswersNumbered, ComesAgain, FailOnlyAbsent, IfAgain, IsGoing, IsTrueTo, IsNumbered, IsUnopened, StopsWith, failed_by, failed_names, unread_in};
+ghost use Rattle.pf_lexer.specs.Calls.{AnswersNumbered, AsksAndReads, ComesAgain, IfAgain, IsGoing, IsTrueTo, IsNumbered, IsUnopened, StopsWith, failed_by, unread_from, unread_in};
 ghost use Rattle.pf_lexer.specs.Going.{stage_weight};
 ghost use Rattle.pf_lexer.specs.ReadSoFar.{ReadSoFar};
-ghost use Rattle.pf_lexer.specs.Reads.{GoesOn};
+ghost use Rattle.pf_lexer.specs.Reads.{number_of};
 ghost use Rattle.pf_lexer.specs.Stages.{Stage};
 ghost use Rattle.pf_lexer.specs.Units.{Begins, Handed, Leads, UnitOf};
 ghost use Rattle.pf_lexer.specs.declared.deed.Statement.{Statement};
@@ -46,7 +44,8 @@ impl Model for Lexer {
 
 impl Lexer {
     /// Reads the first file of a unit, in which these macros stand for their values. `CannotRead` comes only where the
-    /// files' count of faults rose, `TooLarge` where the file is longer than may be read.
+    /// files' count of faults rose, `TooLarge` where the file is longer than may be read. What is open weighs no more than
+    /// what was taken off the bytes that may be read.
     pub fn begin<F: Files>(
         alloc: Global,
         files: &mut F,
@@ -60,12 +59,9 @@ impl Lexer {
         ensures goes { IfOk result (λ lexer. IsGoing lexer.stage) }
         ensures asked { IfErr result (λ fault. (other : List ℕ) → fault ≡ LexFault.CannotRead other → name.now ≡ other) }
         ensures places { IfErr result (λ fault. IsNumbered (length reads.new.names) fault) }
-        ensures grows { GoesOn reads.old.names reads.new.names }
-        ensures left { reads.new.left ≤ reads.old.left }
-        ensures held { StaysHeld (F.tells files.old) (F.tells files.new) }
-        ensures faults { RoseBy (length (unread_in result)) (F.tells files.old).faults (F.tells files.new).faults }
-        ensures failed { Added (unread_in result) (F.tells files.old).failed (F.tells files.new).failed }
-        ensures steady { FailOnlyAbsent (F.tells files.old) (unread_in result) }
+        ensures numbered { IfOk result (λ lexer. number_of reads.new.names name.now < length reads.new.names) }
+        ensures lighter { IfOk result (λ lexer. stage_weight lexer.stage reads.new ≤ 2 ^ 65 * reads.old.left) }
+        ensures asks { AsksAndReads (unread_in result) (F.tells files.old) (F.tells files.new) reads.old reads.new }
     {
         let asked = copy_text(alloc, name)?;
         let top = open_file(alloc, files, reads, asked)?;
@@ -93,13 +89,8 @@ impl Lexer {
         ensures known { self.new.known ≤ length reads.new.names }
         ensures goes { IfOk result (λ found. IsGoing self.new.stage) }
         ensures places { AnswersNumbered (length reads.new.names) result }
-        ensures grows { GoesOn reads.old.names reads.new.names }
-        ensures left { reads.new.left ≤ reads.old.left }
         ensures lighter { IfOk result (λ found. OnSome found (stage_weight self.new.stage reads.new < stage_weight self.old.stage reads.old)) }
-        ensures held { StaysHeld (F.tells files.old) (F.tells files.new) }
-        ensures faults { RoseBy (length (failed_names self.old.stage result)) (F.tells files.old).faults (F.tells files.new).faults }
-        ensures failed { Added (failed_names self.old.stage result) (F.tells files.old).failed (F.tells files.new).failed }
-        ensures steady { FailOnlyAbsent (F.tells files.old) (failed_names self.old.stage result) }
+        ensures asks { AsksAndReads (unread_from self.old.stage result) (F.tells files.old) (F.tells files.new) reads.old reads.new }
     {
         if let Some(fault) = &self.fault {
             return Err(fault.again(alloc));

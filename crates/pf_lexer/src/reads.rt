@@ -1,14 +1,13 @@
 //! What one load reads: its files, numbered in the order of their first readings, and the bytes that it may still read.
-ghost use Rattle.std.specs.Prelude.{◌≡◌, ◌<◌, ◌≤◌, ◌-◌, [], Some, length, slice_get, min, IfOk, OnOk, OnErr};
+ghost use Rattle.std.specs.Prelude.{◌≡◌, ◌<◌, ◌≤◌, ◌-◌, [], Some, length, slice_get, min, position, IfOk, IfSome, OnOk, OnErr};
 ghost use Rattle.std.proofs.Common.{rules};
 ghost use Rattle.std.specs.Cmp.Rules.{comparing, hashing};
 ghost use Rattle.std.specs.Hash as fed;
 ghost use Rattle.std.specs.Str.{bytes_eq};
-ghost use Rattle.pf_source.specs.Causes.{RoseBy};
-ghost use Rattle.pf_source.specs.Files.{StaysHeld};
+ghost use Rattle.pf_source.specs.Asks.{Asks};
 ghost use Rattle.pf_source.specs.Told.{Told, file_of};
 ghost use Rattle.pf_lexer.specs.declared.reads.ReadsFault.TheVariants.{NoMemory as no_memory};
-ghost use Rattle.pf_lexer.specs.Reads.{AddsFailed, FailsOnlyAbsent, GoesOn, IfNamed, IfNumbered, IsLook, after_answer, failed_names, look_up, number_of, read_limit, with_name};
+ghost use Rattle.pf_lexer.specs.Reads.{GoesOn, IfNamed, IfNumbered, IsLook, after_answer, look_up, number_of, read_limit, unread_of, with_name};
 
 use indexmap::IndexSet;
 use pf_base::{List, NoMemory, Text};
@@ -77,6 +76,13 @@ fn number_name(names: &mut IndexSet<FileName>, name: FileName) -> Result<u64, No
 {
     let (number, _) = names.insert_full(name)?;
     Ok(number as u64)
+}
+
+// The number of the name, where it has one.
+fn position_of(names: &IndexSet<FileName>, name: &[u8]) -> Option<usize>
+    ensures { result ≡ position (bytes_eq name.now) names.now.keys }
+{
+    names.iter().position(|file| name == file.text.items())
 }
 
 /// A file that was read.
@@ -149,10 +155,7 @@ impl Reads {
         ensures named { IfNamed self.new.names name.now result }
         ensures grows { GoesOn self.old.names self.new.names }
         ensures within { IfOk result (λ file. length file.text ≤ read_limit self.old.left) }
-        ensures held { StaysHeld (F.tells files.old) (F.tells files.new) }
-        ensures faults { RoseBy (length (failed_names name.now result)) (F.tells files.old).faults (F.tells files.new).faults }
-        ensures failed { AddsFailed name.now result (F.tells files.old).failed (F.tells files.new).failed }
-        ensures steady { FailsOnlyAbsent (F.tells files.old) name.now result }
+        ensures asks { Asks (unread_of name.now result) (F.tells files.old) (F.tells files.new) }
     {
         let key = copy_of(alloc, name)?;
         let limit = MOST.min(self.left);
@@ -169,6 +172,15 @@ impl Reads {
             Err(FilesFault::Failed) => Err(ReadsFault::Failed),
             Err(FilesFault::NoMemory) => Err(ReadsFault::NoMemory),
         }
+    }
+
+    /// The number of the file with this name, or None where it wasn't read.
+    pub fn number(&self, name: &Text) -> Option<u64>
+        ensures number { result ≡ position (bytes_eq name.now) self.now.names }
+        ensures named { IfSome result (λ number. slice_get self.now.names number ≡ Some name.now) }
+    {
+        let number = position_of(&self.names, name.items())?;
+        Some(number as u64)
     }
 
     /// How many files have a number.

@@ -3,8 +3,9 @@ ghost use Rattle.std.specs.Prelude.{◌≡◌, ℕ, ◌∷◌, [], ◌<◌, ◌�
 ghost use Rattle.pf_source.specs.Told.{Told, file_of};
 ghost use Rattle.pf_token.specs.Cells.{are_in};
 ghost use Rattle.pf_token.specs.Reading.{weight};
-ghost use Rattle.pf_lexer.specs.Calls.{Asks, IsNumbered, IsUnopened, StandsIn, StopsWith, unread_in};
+ghost use Rattle.pf_lexer.specs.Calls.{AsksAndReads, IsNumbered, IsUnopened, StandsIn, StopsWith, unread_in};
 ghost use Rattle.pf_lexer.specs.Going.{unit_weight, unopened, unread_for, IsCut, IsFoundNumbered, IsLighterTurn, IsStopped, IsTurnNumbered, Leaves, TurnsTo};
+ghost use Rattle.pf_lexer.specs.Reads.{number_of};
 ghost use Rattle.pf_lexer.specs.Stages.{going, failed};
 ghost use Rattle.pf_lexer.specs.Units.{Leads, Opens};
 
@@ -72,9 +73,10 @@ pub fn open_file<F: Files>(
 ) -> Result<Reader, LexFault>
     ensures ok { IfOk result (λ file. Told (F.tells files.old).held (λ held. Opens (file_of held) name reads.old (Ok file) reads.new)) }
     ensures err { IfErr result (λ fault. Told (F.tells files.old).held (λ held. IsUnopened (file_of held) name reads.old fault reads.new)) }
-    ensures asks { Asks (unread_in result) (F.tells files.old) (F.tells files.new) reads.old reads.new }
+    ensures asks { AsksAndReads (unread_in result) (F.tells files.old) (F.tells files.new) reads.old reads.new }
     ensures unread { IfErr result (λ fault. (other : List ℕ) → fault ≡ LexFault.CannotRead other → name ≡ other) }
     ensures within { IfOk result (λ file. are_in (length reads.new.names) file ≡ true) }
+    ensures numbered { IfOk result (λ file. number_of reads.new.names name < length reads.new.names) }
     ensures places { IfErr result (λ fault. IsNumbered (length reads.new.names) fault) }
     ensures lighter { IfOk result (λ file. weight file + 2 ^ 64 * reads.new.left ≤ 2 ^ 64 * reads.old.left) }
 {
@@ -129,7 +131,7 @@ impl OpenUnit {
         ensures opens { OnOk result (Told (F.tells files.old).held (λ held. Opens (file_of held) name reads.old (Ok self.new.top) reads.new)) }
         ensures enters { OnOk result (self.new ≡ record { macros = self.old.macros; top = self.new.top; below = self.old.top ∷ self.old.below }) }
         ensures err { IfErr result (λ failure. Told (F.tells files.old).held (λ held. IsCut (file_of held) name reads.old failure.fault reads.new)) }
-        ensures asks { Asks (unread_for result) (F.tells files.old) (F.tells files.new) reads.old reads.new }
+        ensures asks { AsksAndReads (unread_for result) (F.tells files.old) (F.tells files.new) reads.old reads.new }
         ensures within { OnOk result (are_in (length reads.new.names) self.new.top ≡ true) }
         ensures places { IfErr result (λ failure. IsNumbered (length reads.new.names) failure.fault) }
         ensures lighter { OnOk result (weight self.new.top + 2 ^ 64 * reads.new.left ≤ 2 ^ 64 * reads.old.left) }
@@ -156,7 +158,7 @@ impl OpenUnit {
     ) -> Result<Turn, Failure>
         ensures ok { IfOk result (λ turn. Told (F.tells files.old).held (λ held. TurnsTo (file_of held) self.old reads.old turn self.new reads.new)) }
         ensures err { IfErr result (λ failure. Told (F.tells files.old).held (λ held. IsStopped (file_of held) self.old reads.old failure.fault reads.new)) }
-        ensures asks { Asks (unread_for result) (F.tells files.old) (F.tells files.new) reads.old reads.new }
+        ensures asks { AsksAndReads (unread_for result) (F.tells files.old) (F.tells files.new) reads.old reads.new }
         ensures within { IfOk result (λ turn. StandsIn (length reads.old.names) self.old → StandsIn (length reads.new.names) self.new) }
         ensures places { StandsIn (length reads.old.names) self.old → IsTurnNumbered (length reads.new.names) result }
         ensures lighter { IfOk result (λ turn. IsLighterTurn turn (unit_weight self.new reads.new) (unit_weight self.old reads.old)) }
@@ -187,7 +189,7 @@ impl OpenUnit {
     ) -> Result<Option<Statement>, Failure>
         ensures ok { IfOk result (λ found. Told (F.tells files.old).held (λ held. Leads (file_of held) (going self.old) reads.old (Ok found) (going self.new) reads.new)) }
         ensures err { IfErr result (λ failure. Told (F.tells files.old).held (λ held. StopsWith (file_of held) (going self.old) reads.old failure.fault (failed failure.fault) reads.new)) }
-        ensures asks { Asks (unread_for result) (F.tells files.old) (F.tells files.new) reads.old reads.new }
+        ensures asks { AsksAndReads (unread_for result) (F.tells files.old) (F.tells files.new) reads.old reads.new }
         ensures within { IfOk result (λ found. StandsIn (length reads.old.names) self.old → StandsIn (length reads.new.names) self.new) }
         ensures places { StandsIn (length reads.old.names) self.old → IsFoundNumbered (length reads.new.names) result }
         ensures lighter { IfOk result (λ found. OnSome found (unit_weight self.new reads.new < unit_weight self.old reads.old)) }

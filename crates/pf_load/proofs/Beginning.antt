@@ -1,6 +1,7 @@
 -- A load from its beginning: its first file is read, and then the rest of its unit.
 use Rattle.std.proofs.Common.{◌≡◌, ℕ, List, Some, Result, Ok, Err, refl, sym, ap, subst, inl, inr}
-use Rattle.pf_runs.specs.Runs.{Disk, without}
+use Rattle.pf_source.specs.Disk.{Disk, without}
+use Rattle.pf_source.specs.DiskLaws.{is_absent}
 use Rattle.pf_token.specs.Macros.{values_of}
 use Rattle.pf_token.specs.declared.cell.Cell.{Cell}
 use Rattle.pf_token.specs.declared.macros.Define.{Define}
@@ -14,19 +15,18 @@ use Rattle.pf_load.specs.Load.{Loads, LoadsOn, MayBe, Outcome, Tells, begun, fau
 use Rattle.pf_load.specs.declared.loading.LoadFault.{LoadFault}
 use Rattle.pf_load.specs.declared.loading.LoadFault.TheVariants.{File, CannotRead, NoMemory}
 use Rattle.pf_load.proofs.Following.{is_true, is_unread}
-use Rattle.pf_lexer.specs.Outages.{Lacks, OpensWithout}
-use Rattle.pf_load.proofs.Lacking.{is_absent, lacks}
+use Rattle.pf_lexer.specs.Outages.{OpensWithout}
 
 -- the lexer's law: without one file a reading is the same, or that file can't be read
 abbrev pub OpenWithout : Type 0
-OpenWithout = (disk less : Disk) (gone : List ℕ) → Lacks disk gone less → (name : List ℕ) (reads later : ReadSoFar) (answer : Result (List Cell) LexFault) → Opens disk name reads answer later → OpensWithout less gone name reads answer later
+OpenWithout = (disk : Disk) (gone name : List ℕ) (reads later : ReadSoFar) (answer : Result (List Cell) LexFault) → Opens disk name reads answer later → OpensWithout disk gone name reads answer later
 
 module _ (disk : Disk) (defines : List Define) (file : List ℕ) where
   starts : (stage : Stage) (later : ReadSoFar) (outcome : Outcome) → Begins disk (values_of defines) file nothing_read stage later → LoadsOn disk stage later outcome → Loads disk defines file outcome
   starts stage later outcome h on = begun h.opens (subst (λ (s : Stage). LoadsOn disk s later outcome) h.starts on)
 
   starts_lacking : OpenWithout → (name : List ℕ) (stage : Stage) (later : ReadSoFar) → Begins disk (values_of defines) file nothing_read stage later → LoadsOn (without (Some name) disk) stage later (Err (CannotRead name)) → Loads (without (Some name) disk) defines file (Err (CannotRead name))
-  starts_lacking law name stage later h on = elim (law disk (without (Some name) disk) name (lacks disk name) file nothing_read later (Ok h.cells) h.opens) [
+  starts_lacking law name stage later h on = elim (law disk name file nothing_read later (Ok h.cells) h.opens) [
     | inl other ↦ begun other (subst (λ (s : Stage). LoadsOn (without (Some name) disk) s later (Err (CannotRead name))) h.starts on)
     | inr lost ↦ subst (λ (n : List ℕ). Loads (without (Some name) disk) defines n (Err (CannotRead name))) (sym lost.0) (unopened unread (is_absent disk name, tt) refl)
   ]

@@ -1,17 +1,16 @@
 -- A load goes on from statement to statement.
-use Rattle.std.proofs.Common.{◌≡◌, ℕ, ◌<◌, List, [], ◌∷◌, ◌++◌, length, Option, Some, None, Ok, Err, refl, sym, ap, subst, ◌∙◌, inl, inr, append_assoc, append-nil, arith}
+use Rattle.std.proofs.Common.{◌≡◌, ℕ, ◌<◌, List, [], ◌∷◌, ◌++◌, Option, Some, None, Ok, Err, refl, sym, ap, subst, ◌∙◌, inl, inr, append_assoc, append-nil}
 use Rattle.std.specs.Prelude.{slice_get}
 use Rattle.std.specs.Option.{option_map}
 use Rattle.pf_base.specs.declared.fault.FaultKind.{FaultKind}
 use Rattle.pf_base.specs.declared.fault.FaultKind.TheVariants as kinds
 use Rattle.pf_base.specs.declared.fault.Place.{Place}
-use Rattle.pf_source.specs.Causes.{RoseBy}
-use Rattle.pf_source.specs.Files.{StaysHeld}
+use Rattle.pf_source.specs.Asks.{Asks}
+use Rattle.pf_source.specs.Disk.{Disk, without}
 use Rattle.pf_source.specs.Told.{FilesTold}
-use Rattle.pf_runs.specs.Runs.{Disk, without}
-use Rattle.pf_runs.proofs.RunLemmas.{AddsNames-more, AddsNames-none}
+use Rattle.pf_source.specs.DiskLaws.{is_absent}
 use Rattle.pf_token.specs.declared.token.Token.{Token}
-use Rattle.pf_lexer.specs.Calls.{Added, AreNumbered, FailOnlyAbsent, IsGoing, IsTrueTo, StopsWith, failed_names, unread_in}
+use Rattle.pf_lexer.specs.Calls.{AreNumbered, IsGoing, IsTrueTo, StopsWith, unread_from, unread_in}
 use Rattle.pf_lexer.specs.ReadSoFar.{ReadSoFar}
 use Rattle.pf_lexer.specs.Stages.{Stage, going, failed}
 use Rattle.pf_lexer.specs.Units.{Answer, Leads}
@@ -19,18 +18,17 @@ use Rattle.pf_lexer.specs.declared.deed.Statement.{Statement}
 use Rattle.pf_lexer.specs.declared.fault.LexFault.{LexFault}
 use Rattle.pf_lexer.specs.declared.fault.LexFault.TheVariants as lexical
 use Rattle.pf_load.specs.Line.{said, said_from}
-use Rattle.pf_load.specs.Load.{Asks, LoadsOn, MayBe, Outcome, Tells, behind, ends, fault_at, fault_of, fault_said, goes_on, rules_in}
+use Rattle.pf_load.specs.Load.{LoadsOn, MayBe, Outcome, Tells, behind, ends, fault_at, fault_of, fault_said, goes_on, rules_in}
 use Rattle.pf_load.specs.declared.line.Said.{Said}
 use Rattle.pf_load.specs.declared.line.Said.TheVariants as says
 use Rattle.pf_load.specs.declared.loading.LoadFault.{LoadFault}
 use Rattle.pf_load.specs.declared.loading.LoadFault.TheVariants.{File, CannotRead, NoMemory}
-use Rattle.pf_lexer.specs.Outages.{Lacks, LeadsWithout, StopsAt}
-use Rattle.pf_load.proofs.Lacking.{is_absent, lacks}
+use Rattle.pf_lexer.specs.Outages.{LeadsWithout, StopsAt}
 use Rattle.pf_rule.specs.declared.rule.Rule.{Rule}
 
 -- the lexer's law: without one file the same comes next, or that file can't be read
 abbrev pub Without : Type 0
-Without = (disk less : Disk) (gone : List ℕ) → Lacks disk gone less → (stage next : Stage) (reads later : ReadSoFar) (answer : Answer) → Leads disk stage reads answer next later → LeadsWithout less gone stage reads answer next later
+Without = (disk : Disk) (gone : List ℕ) (stage next : Stage) (reads later : ReadSoFar) (answer : Answer) → Leads disk stage reads answer next later → LeadsWithout disk gone stage reads answer next later
 
 -- What holds behind some statements: what the rest comes to, behind their rules, is what the whole comes to. The same
 -- without any one file, where the rest is that it can't be read.
@@ -52,7 +50,7 @@ nothing_so_far disk start begun = record {
   lost = λ name h. h;
 }
 
-lost_ends : (disk : Disk) (name : List ℕ) (stage : Stage) (reads : ReadSoFar) → StopsAt (without (Some name) disk) name stage reads → LoadsOn (without (Some name) disk) stage reads (Err (CannotRead name))
+lost_ends : (disk : Disk) (name : List ℕ) (stage : Stage) (reads : ReadSoFar) → StopsAt disk name stage reads → LoadsOn (without (Some name) disk) stage reads (Err (CannotRead name))
 lost_ends disk name stage reads h = ends h.leads (is_absent disk name, tt) refl
 
 -- one more statement
@@ -60,7 +58,7 @@ pub one_more : Without → (disk : Disk) (start stage next : Stage) (begun reads
 one_more law disk start stage next begun reads later rules added new answer h leads is are = record {
   on = λ rest k. subst (λ (rs : List Rule). LoadsOn disk start begun (behind rs rest)) (sym are)
       (subst (λ (o : Outcome). LoadsOn disk start begun o) (behind_more rules added rest) (h.on (behind added rest) (goes_on leads is k)));
-  lost = λ name k. h.lost name (elim (law disk (without (Some name) disk) name (lacks disk name) stage next reads later answer leads) [
+  lost = λ name k. h.lost name (elim (law disk name stage next reads later answer leads) [
     | inl same ↦ goes_on same is k
     | inr lost ↦ lost_ends disk name stage reads lost
   ]);
@@ -121,7 +119,7 @@ at_fault law disk start stage next begun reads later rules lexed (File kind plac
 at_fault law disk start stage next begun reads later rules lexed (CannotRead name) h stops told =
     let leads : Leads disk stage reads (Err (lexical.CannotRead name)) next later =
     subst (λ (f : LexFault). Leads disk stage reads (Err f) next later) (is_unread later.names lexed name told) (stops_leads disk later.names stage next reads later lexed (CannotRead name) told stops) in
-    h.lost name (elim (law disk (without (Some name) disk) name (lacks disk name) stage next reads later (Err (lexical.CannotRead name)) leads) [
+    h.lost name (elim (law disk name stage next reads later (Err (lexical.CannotRead name)) leads) [
       | inl same ↦ ends same (is_absent disk name, tt) refl
       | inr lost ↦ lost_ends disk name stage reads lost
     ])
@@ -144,27 +142,10 @@ faulty_numbered count (first ∷ rest) None place numbered h =
 
 -- What was asked of the files.
 
-pub nothing_asked : (files : FilesTold) → Asks [] files files
-nothing_asked files = record {
-  held = record { held = refl; steady = refl };
-  counted = record { later = omega arith; by = omega arith };
-  named = AddsNames-none files.failed;
-  steady = λ steady. record { at = λ held is. tt };
-}
-
-pub asked_on : (names : List (List ℕ)) (a b c : FilesTold) → Asks [] a b → Asks names b c → Asks names a c
-asked_on names a b c h k = record {
-  held = record { held = k.held.held ∙ h.held.held; steady = k.held.steady ∙ h.held.steady };
-  counted = let one = h.counted.later in let two = k.counted.later in let three = k.counted.by in record { later = omega arith; by = omega arith };
-  named = AddsNames-more [] names a.failed b.failed c.failed h.named k.named;
-  steady = λ steady. record { at = λ held is. (k.steady (h.held.steady ∙ steady)).at held (h.held.held ∙ is) };
-}
-
-names_going : (stage : Stage) (answer : Answer) → IsGoing stage → failed_names stage answer ≡ unread_in answer
+names_going : (stage : Stage) (answer : Answer) → IsGoing stage → unread_from stage answer ≡ unread_in answer
 names_going (going unit) answer h = refl
 names_going (failed fault) answer h = absurd h
 
 -- one call of the lexer that goes on
-pub lexer_asks : (stage : Stage) (answer : Answer) (old new : FilesTold) → IsGoing stage → StaysHeld old new → RoseBy (length (failed_names stage answer)) old.faults new.faults → Added (failed_names stage answer) old.failed new.failed → FailOnlyAbsent old (failed_names stage answer) → Asks (unread_in answer) old new
-lexer_asks stage answer old new goes held counted named steady =
-    subst (λ (names : List (List ℕ)). Asks names old new) (names_going stage answer goes) (record { held = held; counted = counted; named = named; steady = steady })
+pub lexer_asks : (stage : Stage) (answer : Answer) (old new : FilesTold) → IsGoing stage → Asks (unread_from stage answer) old new → Asks (unread_in answer) old new
+lexer_asks stage answer old new goes asks = subst (λ (names : List (List ℕ)). Asks names old new) (names_going stage answer goes) asks

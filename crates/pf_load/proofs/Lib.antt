@@ -1,6 +1,6 @@
 pub mod Beginning
+pub mod EachLoad
 pub mod Following
-pub mod Lacking
 pub mod OneLoad
 pub mod Remembering
 pub mod Spellings

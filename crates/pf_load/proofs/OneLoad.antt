@@ -1,17 +1,17 @@
 -- Over a disk a load comes to one thing, where each call of the lexer leads to one answer.
 use Rattle.std.proofs.Common.{◌≡◌, ℕ, List, Some, None, Result, Ok, Err, sym, ap, subst, ◌∙◌}
 use Rattle.std.specs.Option.{option_map}
-use Rattle.pf_runs.specs.Runs.{Disk}
+use Rattle.pf_source.specs.Disk.{AreAbsent, Disk}
 use Rattle.pf_token.specs.Macros.{values_of}
 use Rattle.pf_token.specs.declared.cell.Cell.{Cell}
 use Rattle.pf_token.specs.declared.macros.Define.{Define}
-use Rattle.pf_lexer.specs.Calls.{AreAbsent, unread_in}
+use Rattle.pf_lexer.specs.Calls.{unread_in}
 use Rattle.pf_lexer.specs.ReadSoFar.{ReadSoFar}
 use Rattle.pf_lexer.specs.Stages.{Stage}
 use Rattle.pf_lexer.specs.Units.{Answer, Leads, Opens, start_in}
 use Rattle.pf_lexer.specs.declared.fault.LexFault.{LexFault}
 use Rattle.pf_load.specs.Line.{said}
-use Rattle.pf_load.specs.Load.{IsTrue, Loads, LoadsOn, Outcome, begun, behind, end_in, ends, fault_of, fault_said, goes_on, nothing_read, rules_in, rules_said, unopened}
+use Rattle.pf_load.specs.Load.{Loads, LoadsOn, Outcome, begun, behind, end_in, ends, fault_of, fault_said, goes_on, nothing_read, rules_in, rules_said, unopened}
 use Rattle.pf_load.specs.declared.line.Said.{Said}
 use Rattle.pf_load.specs.declared.line.Said.TheVariants as says
 use Rattle.pf_load.specs.declared.loading.LoadFault.{LoadFault}
@@ -19,7 +19,7 @@ use Rattle.pf_rule.specs.declared.rule.Rule.{Rule}
 
 -- each call leads to one answer that is true to the disk
 abbrev pub LeadsToOne : Disk → Type 0
-LeadsToOne disk = (stage n m : Stage) (reads l k : ReadSoFar) (a b : Answer) → Leads disk stage reads a n l → Leads disk stage reads b m k → IsTrue disk a → IsTrue disk b → (a ≡ b) × (n ≡ m) × (l ≡ k)
+LeadsToOne disk = (stage n m : Stage) (reads l k : ReadSoFar) (a b : Answer) → Leads disk stage reads a n l → Leads disk stage reads b m k → AreAbsent disk (unread_in a) → AreAbsent disk (unread_in b) → (a ≡ b) × (n ≡ m) × (l ≡ k)
 
 not_said : (names : List (List ℕ)) (s : Said) (rules : List Rule) (outcome : Outcome) → rules_said s ≡ Some rules → option_map (λ (f : LoadFault). Err f) (fault_said names s) ≡ Some outcome → ⊥
 not_said names says.Nothing rules outcome h k = cc
@@ -31,7 +31,7 @@ not_both names (Ok None) rules outcome h k = cc
 not_both names (Ok (Some statement)) rules outcome h k = not_said names (said statement) rules outcome h k
 not_both names (Err fault) rules outcome h k = cc
 
-rules_true : (disk : Disk) (answer : Answer) (rules : List Rule) → rules_in answer ≡ Some rules → IsTrue disk answer
+rules_true : (disk : Disk) (answer : Answer) (rules : List Rule) → rules_in answer ≡ Some rules → AreAbsent disk (unread_in answer)
 rules_true disk (Ok found) rules h = tt
 rules_true disk (Err fault) rules h = cc
 

@@ -5,7 +5,7 @@ use Rattle.std.specs.Option.{option_map}
 use Rattle.pf_base.specs.declared.fault.FaultKind.{FaultKind}
 use Rattle.pf_base.specs.declared.fault.FaultKind.TheVariants as kinds
 use Rattle.pf_base.specs.declared.fault.Place.{Place}
-use Rattle.pf_runs.specs.Runs.{Disk}
+use Rattle.pf_source.specs.Disk.{Disk}
 use Rattle.pf_token.specs.declared.macros.Define.{Define}
 use Rattle.pf_lexer.specs.ReadSoFar.{ReadSoFar}
 use Rattle.pf_lexer.specs.Stages.{Stage}

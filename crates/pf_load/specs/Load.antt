@@ -1,17 +1,14 @@
 -- A load: the rules of a file and of the files that it includes, or the first fault (pfctl(8), `-f`).
-use Rattle.std.specs.Prelude.{◌≡◌, ℕ, List, [], ◌∷◌, ◌++◌, Option, Some, None, Result, Ok, Err, length, slice_get}
+use Rattle.std.specs.Prelude.{◌≡◌, ℕ, List, [], ◌∷◌, ◌++◌, Option, Some, None, Result, Ok, Err, slice_get}
 use Rattle.std.specs.Option.{option_map}
 use Rattle.pf_base.specs.declared.fault.FaultKind.{FaultKind}
 use Rattle.pf_base.specs.declared.fault.FaultKind.TheVariants as kinds
 use Rattle.pf_base.specs.declared.fault.Place.{Place}
-use Rattle.pf_source.specs.Causes.{RoseBy}
-use Rattle.pf_source.specs.Files.{StaysHeld}
-use Rattle.pf_source.specs.Told.{FilesTold}
-use Rattle.pf_runs.specs.Runs.{AddsNames, Disk, without}
+use Rattle.pf_source.specs.Disk.{AreAbsent, Disk, without}
 use Rattle.pf_token.specs.Macros.{values_of}
 use Rattle.pf_token.specs.declared.cell.Cell.{Cell}
 use Rattle.pf_token.specs.declared.macros.Define.{Define}
-use Rattle.pf_lexer.specs.Calls.{AreAbsent, FailOnlyAbsent, IsTrueTo, unread_in}
+use Rattle.pf_lexer.specs.Calls.{unread_by, unread_in}
 use Rattle.pf_lexer.specs.ReadSoFar.{ReadSoFar}
 use Rattle.pf_lexer.specs.Stages.{Stage}
 use Rattle.pf_lexer.specs.Units.{Answer, Leads, Opens, start_in}
@@ -77,15 +74,12 @@ abbrev pub behind : List Rule → Outcome → Outcome
 behind rules (Ok more) = Ok (rules ++ more)
 behind rules (Err fault) = Err fault
 
--- a file that can't be read isn't on the disk
-abbrev pub IsTrue : Disk → Answer → Type 0
-IsTrue disk answer = AreAbsent disk (unread_in answer)
-
 -- What the rest of a unit comes to, from where it stands: statement by statement, up to its end or the first fault.
+-- A file that can't be read isn't on the disk.
 pub data LoadsOn (disk : Disk) : Stage → ReadSoFar → Outcome → Type 0 where
   ends : {stage next : Stage} {reads later : ReadSoFar} {answer : Answer} {outcome : Outcome}
       → Leads disk stage reads answer next later
-      → IsTrue disk answer
+      → AreAbsent disk (unread_in answer)
       → end_in later.names answer ≡ Some outcome
       → LoadsOn disk stage reads outcome
   goes_on : {stage next : Stage} {reads later : ReadSoFar} {answer : Answer} {rules : List Rule} {rest : Outcome}
@@ -102,11 +96,19 @@ pub data Loads (disk : Disk) (defines : List Define) (file : List ℕ) : Outcome
       → Loads disk defines file outcome
   unopened : {later : ReadSoFar} {lexical_fault : LexFault} {fault : LoadFault}
       → Opens disk file nothing_read (Err lexical_fault) later
-      → IsTrueTo disk (Some lexical_fault)
+      → AreAbsent disk (unread_by lexical_fault)
       → fault_of later.names lexical_fault ≡ Some fault
       → Loads disk defines file (Err fault)
 
--- What a call may answer, by what comes over a disk. A file that can't be read is as if absent. Memory may be short.
+-- A load comes to something, and that is no want of memory.
+pub record HasOutcome (disk : Disk) (defines : List Define) (file : List ℕ) : Type 0 where
+  pub outcome : Outcome
+  pub loads : Loads disk defines file outcome
+  pub enough : outcome ≡ Err NoMemory → ⊥
+
+-- What a call may answer, by what comes over a disk. A file that can't be read is as if absent, and that for the whole
+-- call: where a file is read twice and its second read fails, the answer is what comes over the disk without it, which is
+-- that it can't be read at the first place already. Memory may be short.
 abbrev pub MayBe : Disk → (Disk → Outcome → Type 0) → Outcome → Type 0
 MayBe disk Comes (Ok rules) = Comes disk (Ok rules)
 MayBe disk Comes (Err (File kind place name)) = Comes disk (Err (File kind place name))
@@ -114,21 +116,14 @@ MayBe disk Comes (Err (CannotRead name)) = Comes (without (Some name) disk) (Err
 MayBe disk Comes (Err NoMemory) = Unit {0}
 
 -- the name of the file that can't be read
-abbrev pub unread_by : Outcome → List (List ℕ)
-unread_by (Ok rules) = []
-unread_by (Err (File kind place name)) = []
-unread_by (Err (CannotRead name)) = name ∷ []
-unread_by (Err NoMemory) = []
+abbrev pub unread_in_load : Outcome → List (List ℕ)
+unread_in_load (Ok rules) = []
+unread_in_load (Err (File kind place name)) = []
+unread_in_load (Err (CannotRead name)) = name ∷ []
+unread_in_load (Err NoMemory) = []
 
 -- this fault, unless memory is short
 abbrev pub Tells : Option LoadFault → LoadFault → Type 0
 Tells told (File kind place name) = told ≡ Some (File kind place name)
 Tells told (CannotRead name) = told ≡ Some (CannotRead name)
 Tells told NoMemory = Unit {0}
-
--- What a call asked of the files: the reads of these names failed, over steady files only where they are absent.
-pub record Asks (names : List (List ℕ)) (old new : FilesTold) : Type 0 where
-  pub held : StaysHeld old new
-  pub counted : RoseBy (length names) old.faults new.faults
-  pub named : AddsNames names old.failed new.failed
-  pub steady : FailOnlyAbsent old names

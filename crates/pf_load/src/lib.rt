@@ -1,5 +1,5 @@
 //! Loads a file of rules: the statements that the lexer hands out, each a rule or a fault.
-//! It stands on pf_base, pf_source, pf_runs (what an outage is), pf_lexer and pf_rule.
+//! It stands on pf_base, pf_source, pf_lexer and pf_rule.
 //! The layer above loads by [`load`].
 #![tactic(auto)]
 
@@ -8,8 +8,8 @@ pub mod loading;
 
 pub use line::words_say_what_they_spell;
 pub use loading::{
-    LoadFault, a_load_comes_to_one_thing, an_absent_file_is_no_outage, load,
-    no_load_comes_to_want_of_memory,
+    LoadFault, a_load_comes_to_one_thing, a_load_comes_to_something, an_absent_file_is_no_outage,
+    load, no_load_comes_to_want_of_memory,
 };
 
 #[cfg(test)]

@@ -1,15 +1,19 @@
 //! A load: the rules of a file, with each include replaced by that file's statements.
 ghost use Rattle.std.specs.Prelude.{◌≡◌, ◌<◌, ◌≤◌, ℕ, Err, List, [], None, Some, length};
+ghost use Rattle.pf_source.specs.Asks.{Asks};
+ghost use Rattle.pf_source.specs.Disk.{Disk, without};
 ghost use Rattle.pf_source.specs.Told.{Told, file_of};
-ghost use Rattle.pf_runs.specs.Runs.{Disk, without};
 ghost use Rattle.pf_token.specs.declared.macros.Define.{Define as Macro};
-ghost use Rattle.pf_lexer.specs.Calls.{IsGoing, IsNumbered, unread_by as unread_by_lexer};
-ghost use Rattle.pf_load.specs.Load.{Asks, Loads, LoadsOn, MayBe, Outcome, Tells, fault_at, fault_of, unread_by};
+ghost use Rattle.pf_lexer.specs.Calls.{IsGoing, IsNumbered, unread_by};
+ghost use Rattle.pf_load.specs.Load.{HasOutcome, Loads, LoadsOn, MayBe, Outcome, Tells, fault_at, fault_of, unread_in_load};
 ghost use Rattle.pf_load.specs.declared.loading.LoadFault.TheVariants.{NoMemory as no_memory};
 
 use crate::line::{Said, read_statement};
 use pf_base::{FaultKind, List, NoMemory, Place, Text};
-use pf_lexer::laws::{lead_is_one, lead_without, opening_is_one, opening_without};
+use pf_lexer::laws::{
+    a_unit_has_statements, lead_is_one, lead_stays_within, lead_without, opening_is_one,
+    opening_stays_within, opening_without,
+};
 use pf_lexer::{Define, LexFault, Lexer, Macros, Reads};
 use pf_rule::Rule;
 use pf_source::Files;
@@ -59,7 +63,7 @@ impl From<NoMemory> for LoadFault {
 fn fault_in(alloc: Global, reads: &Reads, kind: FaultKind, place: Place) -> LoadFault
     requires { place.file < length reads.now.names }
     ensures tells { Tells (fault_at reads.now.names kind place) result }
-    ensures reads { unread_by (Err result) ≡ [] }
+    ensures reads { unread_in_load (Err result) ≡ [] }
 {
     match Vec::from_slice(alloc, reads.name(place.file).items()) {
         Ok(name) => LoadFault::File {
@@ -75,7 +79,7 @@ fn fault_in(alloc: Global, reads: &Reads, kind: FaultKind, place: Place) -> Load
 fn lexical_fault(alloc: Global, reads: &Reads, fault: LexFault) -> LoadFault
     requires { IsNumbered (length reads.now.names) fault }
     ensures tells { Tells (fault_of reads.now.names fault) result }
-    ensures reads { unread_by (Err result) ≡ unread_by_lexer fault }
+    ensures reads { unread_in_load (Err result) ≡ unread_by fault }
 {
     let (kind, place) = match fault {
         LexFault::BadByte(place) => (FaultKind::BadByte, place),
@@ -101,7 +105,7 @@ fn read_rules<F: Files>(
     requires known { lexer.known ≤ length reads.old.names }
     requires goes { IsGoing lexer.stage }
     ensures means { Told (F.tells files.old).held (λ held. MayBe (file_of held) (λ disk. LoadsOn disk lexer.stage reads.old) result) }
-    ensures asks { Asks (unread_by result) (F.tells files.old) (F.tells files.new) }
+    ensures asks { Asks (unread_in_load result) (F.tells files.old) (F.tells files.new) }
 {
     lead_without();
     let mut lexer = lexer;
@@ -132,7 +136,7 @@ pub fn load<F: Files>(
     file: &Text,
 ) -> Result<List<Rule>, LoadFault>
     ensures means { Told (F.tells files.old).held (λ held. MayBe (file_of held) (λ disk. Loads disk defines.now file.now) result) }
-    ensures asks { Asks (unread_by result) (F.tells files.old) (F.tells files.new) }
+    ensures asks { Asks (unread_in_load result) (F.tells files.old) (F.tells files.new) }
 {
     opening_without();
     let macros = Macros::new(alloc, defines)?;
@@ -150,6 +154,16 @@ pub fn a_load_comes_to_one_thing()
 {
     lead_is_one();
     opening_is_one();
+}
+
+/// A law: over each disk a load comes to something, which is no want of memory.
+pub fn a_load_comes_to_something()
+    ensures { (disk : Disk) (defines : List Macro) (file : List ℕ) → HasOutcome disk defines file }
+{
+    a_unit_has_statements();
+    lead_stays_within();
+    opening_stays_within();
+    no_load_comes_to_want_of_memory();
 }
 
 /// A law: a file that is absent is no outage. Over a disk without it a load comes to the same.

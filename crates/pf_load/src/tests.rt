@@ -204,20 +204,24 @@ fn given_macros(rt: HostRuntime) -> Result<(), Fail> {
     check_loads(&rt, alloc, &defines, &rows)
 }
 
+/// A file that includes two others.
+const INCLUDES: &[u8] = b"pass\ninclude out\nblock in\ninclude macros\nblock";
+
 #[test]
 fn failed_reads(rt: HostRuntime) -> Result<(), Fail> {
     let alloc = rt.alloc();
-    let rows: [(&[u64], &'static [u8], &'static [u8]); 6] = [
-        (&[], b"f", b"p;bo;po17;bi;b;"),
-        (&[1], b"f", b"CannotRead f|"),
-        (&[2], b"f", b"CannotRead out|"),
+    let rows: [(&[u64], &[u8], &'static [u8], &'static [u8]); 7] = [
+        (&[], INCLUDES, b"f", b"p;bo;po17;bi;b;"),
+        (&[1], INCLUDES, b"f", b"CannotRead f|"),
+        (&[2], INCLUDES, b"f", b"CannotRead out|"),
         // The third call is the second include's.
-        (&[3], b"f", b"CannotRead macros|"),
-        (&[4], b"f", b"p;bo;po17;bi;b;"),
-        (&[], b"gone", b"CannotRead gone|"),
+        (&[3], INCLUDES, b"f", b"CannotRead macros|"),
+        (&[4], INCLUDES, b"f", b"p;bo;po17;bi;b;"),
+        (&[], INCLUDES, b"gone", b"CannotRead gone|"),
+        // The second read of one file fails.
+        (&[3], b"include out\ninclude out", b"f", b"CannotRead out|"),
     ];
-    for (fail, name, wanted) in &rows {
-        let text = b"pass\ninclude out\nblock in\ninclude macros\nblock";
+    for (fail, text, name, wanted) in &rows {
         let mut files = files_of(alloc, text, fail)?;
         let file = text_of(alloc, name)?;
         let found = load(alloc, &mut files, &[], &file);

@@ -1,5 +1,5 @@
 -- When two sets of numbers, flags or types are one.
-use Rattle.std.specs.Prelude.{◌≡◌, ℕ, Option, Some, None, refl}
+use Rattle.std.specs.Prelude.{◌≡◌, Option, Some, None, refl}
 use Rattle.pf_base.specs.Equality.{Equality, made_of, numbers, options, pairs}
 use Rattle.pf_base.specs.Kinds.{families}
 use Rattle.pf_ops.specs.declared.flags.IcmpType.{IcmpType}

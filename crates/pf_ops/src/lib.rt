@@ -15,7 +15,8 @@ pub use laws::{equal_sets_are_one_value, letters_of_flags_read_back};
 pub use numbers::{Interval, Numbers};
 pub use operator::{Op16, Op32, OpKind};
 pub use words::{
-    flag_bit, flag_bits, flags_of, icmp_number, icmp_of, proto_name, proto_number, proto_of, put_flags,
+    flag_bit, flag_bits, flags_of, icmp_number, icmp_of, proto_name, proto_number, proto_of,
+    put_flags,
 };
 
 #[cfg(test)]

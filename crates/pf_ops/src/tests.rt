@@ -1,5 +1,6 @@
 use crate::{
-    Interval, Numbers, Op16, Op32, OpKind, flag_bit, icmp_number, proto_name, proto_number,
+    Interval, Numbers, Op16, Op32, OpKind, flag_bits, flags_of, icmp_number, icmp_of, proto_name,
+    proto_number, proto_of, put_flags,
 };
 use pf_base::{Family, Name};
 
@@ -104,21 +105,50 @@ fn sets_have_one_form(rt: HostRuntime) {
 
 #[test]
 fn words_stand_for_numbers(rt: HostRuntime) {
-    assert_eq!(rt; proto_number(b"icmp"), Some(1));
-    assert_eq!(rt; proto_number(b"pfsync"), Some(240));
-    assert_eq!(rt; proto_number(b"ipv6-icmp"), Some(58));
-    assert_eq!(rt; proto_number(b"TCP"), None);
-    assert_eq!(rt; proto_number(b""), None);
+    for (word, number) in [
+        ("icmp", Some(1)),
+        ("pfsync", Some(240)),
+        ("ipv6-icmp", Some(58)),
+        ("TCP", None),
+        ("", None),
+        ("255", Some(255)),
+        ("006", Some(6)),
+        ("256", None),
+    ] {
+        assert_eq!(rt; proto_of(word.as_bytes()), number, "{word}");
+    }
+    assert_eq!(rt; proto_number(b"6"), None);
     assert_eq!(rt; proto_name(58), Name::new(b"icmp6"));
-    assert_eq!(rt; proto_name(6), Name::new(b"tcp"));
     assert_eq!(rt; proto_name(0), None);
-    assert_eq!(rt; icmp_number(Family::Inet, b"echorep"), Some(0));
-    assert_eq!(rt; icmp_number(Family::Inet, b"paramprob"), Some(12));
-    assert_eq!(rt; icmp_number(Family::Inet6, b"unreach"), Some(1));
-    assert_eq!(rt; icmp_number(Family::Inet6, b"neighbradv"), Some(136));
-    assert_eq!(rt; icmp_number(Family::Inet, b"toobig"), None);
-    assert_eq!(rt; icmp_number(Family::Inet6, b"redir"), None);
-    assert_eq!(rt; flag_bit(b'F'), Some(1));
-    assert_eq!(rt; flag_bit(b'W'), Some(128));
-    assert_eq!(rt; flag_bit(b's'), None);
+    for (family, word, number) in [
+        (Family::Inet, "echorep", Some(0)),
+        (Family::Inet6, "unreach", Some(1)),
+        (Family::Inet6, "neighbradv", Some(136)),
+        (Family::Inet, "toobig", None),
+        (Family::Inet6, "redir", None),
+        (Family::Inet, "013", Some(13)),
+        (Family::Inet6, "256", None),
+    ] {
+        assert_eq!(rt; icmp_of(family, word.as_bytes()), number, "{word}");
+    }
+    assert_eq!(rt; icmp_number(Family::Inet, b"13"), None);
+}
+
+#[test]
+fn letters_stand_for_flags(rt: HostRuntime) {
+    for (letters, bits, strict, printed) in [
+        ("S", 2u8, Some(2u8), "S"),
+        ("AS", 18, Some(18), "SA"),
+        ("WEUAPRSF", 255, Some(255), "FSRPAUEW"),
+        ("SS", 2, Some(2), "S"),
+        ("Sx", 2, None, "S"),
+        ("s", 0, None, ""),
+        ("", 0, None, ""),
+    ] {
+        assert_eq!(rt; flag_bits(letters.as_bytes()), bits, "{letters}");
+        assert_eq!(rt; flags_of(letters.as_bytes()), strict, "{letters}");
+        let mut out = Vec::new(rt.alloc());
+        assert_eq!(rt; put_flags(&mut out, bits), Ok(()), "{letters}");
+        assert_eq!(rt; out.as_slice(), printed.as_bytes(), "{letters}");
+    }
 }

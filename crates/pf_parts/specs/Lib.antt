@@ -1,5 +1,9 @@
 pub mod Appending
 pub mod BlockText
+pub mod CallPieces
+pub mod CallReading
+pub mod CallTarget
+pub mod CallText
 pub mod Defaults
 pub mod Equal
 pub mod Items

@@ -1,5 +1,5 @@
 -- How the state of a rule or an answer is printed (pf.conf(5), STATEFUL FILTERING).
-use Rattle.std.specs.Prelude.{ℕ, List, [], ◌∷◌, ◌++◌, Option, Some, codes, decimal}
+use Rattle.std.specs.Prelude.{ℕ, List, [], ◌∷◌, ◌++◌, Option, Some, None, codes, decimal}
 use Rattle.std.specs.Option.{option_map}
 use Rattle.pf_parts.specs.declared.state.StateKind.{StateKind}
 use Rattle.pf_parts.specs.declared.state.StateKind.TheVariants as state
@@ -50,6 +50,13 @@ option_parts options =
     ∷ word_if options.if_bound (codes "if-bound")
     ∷ []
 
--- which state is made, and its options in brackets
+-- the options in brackets, where any is given; a rule that makes no state has none
+abbrev pub options_text : StateKind → StateOptions → Option (List ℕ)
+options_text state.None options = None
+options_text state.Keep options = in_brackets (option_parts options)
+options_text state.Modulate options = in_brackets (option_parts options)
+options_text state.Synproxy options = in_brackets (option_parts options)
+
+-- which state is made, and its options
 unfoldable pub state_text : StateKind → StateOptions → List ℕ
-state_text kind options = joined (codes " ") (Some (kind_text kind) ∷ in_brackets (option_parts options) ∷ [])
+state_text kind options = joined (codes " ") (Some (kind_text kind) ∷ options_text kind options ∷ [])

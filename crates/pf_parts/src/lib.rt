@@ -9,6 +9,8 @@
 pub mod block;
 pub mod block_text;
 pub mod call;
+mod call_target;
+pub mod call_text;
 pub mod direction;
 mod equal;
 pub mod item;
@@ -21,7 +23,8 @@ pub mod text;
 
 pub use block::BlockKind;
 pub use block_text::put_block_kind;
-pub use call::{Base, Call};
+pub use call::{Base, Call, printed_calls_read_back};
+pub use call_text::put_call;
 pub use direction::Direction;
 pub use matching::{IfTest, TagTest};
 pub use param_text::{
@@ -31,3 +34,6 @@ pub use params::{Log, Prios, Queues, Scrub};
 pub use state::{Flush, Overload, Rate, StateKind, StateOptions, Track};
 pub use state_text::put_state;
 pub use text::{put, put_name, put_named, put_number, put_numbered, put_quoted};
+
+#[cfg(test)]
+mod tests;

@@ -66,14 +66,16 @@ fn option_items(options: &StateOptions) -> [Option<Item>; 11]
     ]
 }
 
-/// Appends `no state`, `keep state`, `modulate state` or `synproxy state`, and its options in brackets.
-/// Without memory a front of this may be appended.
+/// Appends `no state`, `keep state`, `modulate state` or `synproxy state`, and behind these three the options in
+/// brackets. Without memory a front of this may be appended.
 #[tactic(auto, unfolding(crate::specs::StateText::state_text))]
 pub fn put_state(out: &mut Vec<u8>, kind: StateKind, options: &StateOptions) -> Result<(), NoMemory>
     ensures ok { OnOk result (out.new.items ≡ out.old.items ++ state_text kind options.now) }
     ensures kept { Extends out.old.items out.new.items }
 {
     put(out, kind_word(kind))?;
-    put_in_brackets(out, &option_items(options))?;
+    if !matches!(kind, StateKind::None) {
+        put_in_brackets(out, &option_items(options))?;
+    }
     Ok(())
 }

@@ -9,7 +9,8 @@ use Rattle.pf_record.specs.declared.field.Field.TheVariants.{Sport, Dport, Flags
 use Rattle.pf_record.specs.Keys.{Key, is_flags, is_missing, is_number, is_sound, is_word_of, key, keys, keys_fault, value_of, words_fault}
 use Rattle.pf_record.specs.Reading.{AreCut, beginnings, behind_first, end_fault, fault_in, first_value, is_empty, list_of, rest_behind, value_behind, value_read, values_fault, values_in}
 use Rattle.pf_record.specs.Record.{Values, key_words, perhaps}
-use Rattle.pf_record.specs.Words.{flags_of, has_ports, has_types, is_tcp}
+use Rattle.pf_ops.specs.Words.{flags_of}
+use Rattle.pf_record.specs.Words.{has_ports, has_types, is_tcp}
 use Rattle.pf_record.proofs.GivenLemmas.{key_words-cut, stands-sport, stands-dport, stands-icmptype, stands-code}
 use Rattle.pf_record.proofs.KeyLemmas.{is_some-option_map}
 

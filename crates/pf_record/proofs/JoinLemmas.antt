@@ -15,11 +15,11 @@ spaced_parts (Some part ∷ parts) = ap (λ (rest : List ℕ). (codes " " ++ par
 joined_first : (first : List ℕ) (parts : List (Option (List ℕ))) → first ++ flat_map spaced parts ≡ joined (codes " ") (Some first ∷ parts)
 joined_first first parts = ap (λ (rest : List ℕ). first ++ rest) (sym (spaced_parts parts))
 
-pub pass_joined : (old a b c d new first : List ℕ) (log tag queue prio tos scrub opts label : Option (List ℕ)) → a ≡ old ++ first → b ≡ a ++ (spaced log ++ spaced tag) → c ≡ b ++ (spaced queue ++ spaced prio ++ spaced tos) → d ≡ c ++ (spaced scrub ++ spaced opts) → new ≡ d ++ spaced label → new ≡ old ++ joined (codes " ") (Some first ∷ log ∷ tag ∷ queue ∷ prio ∷ tos ∷ scrub ∷ opts ∷ label ∷ [])
-pass_joined old a b c d new first log tag queue prio tos scrub opts label ha hb hc hd h =
-    let whole : new ≡ old ++ (first ++ flat_map spaced (log ∷ tag ∷ queue ∷ prio ∷ tos ∷ scrub ∷ opts ∷ label ∷ [])) =
+pub pass_joined : (old a b c d new first : List ℕ) (log tag queue prio tos scrub nat rdr opts label : Option (List ℕ)) → a ≡ old ++ first → b ≡ a ++ (spaced log ++ spaced tag) → c ≡ b ++ (spaced queue ++ spaced prio ++ spaced tos) → d ≡ c ++ (spaced scrub ++ spaced nat ++ spaced rdr ++ spaced opts) → new ≡ d ++ spaced label → new ≡ old ++ joined (codes " ") (Some first ∷ log ∷ tag ∷ queue ∷ prio ∷ tos ∷ scrub ∷ nat ∷ rdr ∷ opts ∷ label ∷ [])
+pass_joined old a b c d new first log tag queue prio tos scrub nat rdr opts label ha hb hc hd h =
+    let whole : new ≡ old ++ (first ++ flat_map spaced (log ∷ tag ∷ queue ∷ prio ∷ tos ∷ scrub ∷ nat ∷ rdr ∷ opts ∷ label ∷ [])) =
     rw (h, hd, hc, hb, ha, append-nil (spaced label)) (simp append_assoc) in
-    whole ∙ ap (λ (text : List ℕ). old ++ text) (joined_first first (log ∷ tag ∷ queue ∷ prio ∷ tos ∷ scrub ∷ opts ∷ label ∷ []))
+    whole ∙ ap (λ (text : List ℕ). old ++ text) (joined_first first (log ∷ tag ∷ queue ∷ prio ∷ tos ∷ scrub ∷ nat ∷ rdr ∷ opts ∷ label ∷ []))
 
 pub block_joined : (old a b new first : List ℕ) (log tag label : Option (List ℕ)) → a ≡ old ++ first → b ≡ a ++ (spaced log ++ spaced tag) → new ≡ b ++ spaced label → new ≡ old ++ joined (codes " ") (Some first ∷ log ∷ tag ∷ label ∷ [])
 block_joined old a b new first log tag label ha hb h =

@@ -7,7 +7,7 @@ use Rattle.pf_base.specs.Name.{plain_name}
 use Rattle.pf_base.specs.Text.{fields_of}
 use Rattle.pf_addr.specs.Addr.{SameFamily}
 use Rattle.pf_addr.specs.declared.addr.Addr.{Addr}
-use Rattle.pf_addr.proofs.Values.{IsAddrText-unique}
+use Rattle.pf_addr.specs.Grammar.{IsAddrText}
 use Rattle.pf_rule.specs.declared.packet.Packet.{Packet}
 use Rattle.pf_record.specs.declared.field.Field.{Field}
 use Rattle.pf_record.specs.declared.field.Field.TheVariants as field
@@ -15,7 +15,8 @@ use Rattle.pf_record.specs.declared.field.PacketFault.{PacketFault}
 use Rattle.pf_record.specs.Keys.{keys_fault}
 use Rattle.pf_record.specs.Reading.{AreCut, AreRead, end_fault, lacks, list_of, values_fault, sport_read, dport_read, flags_read, icmptype_read, code_read, tos_read, prio_read, user_read, group_read, tag_read}
 use Rattle.pf_record.specs.Record.{AreAllowed, AreSaid, IsFaulty, IsReadAs, IsRecord, Values, Writes, fault_of, perhaps}
-use Rattle.pf_record.specs.Words.{direction_of, flags_of, has_ports, has_types, is_tcp, proto_of}
+use Rattle.pf_ops.specs.Words.{flags_of, proto_of}
+use Rattle.pf_record.specs.Words.{direction_of, has_ports, has_types, is_tcp}
 use Rattle.pf_record.proofs.FaultLemmas.{keys_fault-values}
 use Rattle.pf_record.proofs.GivenLemmas.{AreCut-key_words}
 use Rattle.pf_record.proofs.SaidLemmas.{Says-value_read, has-value_read, given-value_read, value_read-Says, lacks-given, both_none}
@@ -201,13 +202,17 @@ one_reading text (Err a) (Ok q) one_source one_target h g = absurd (no_fault _ q
 one_reading text (Err a) (Err b) one_source one_target h g =
     let same = one_fault _ b.0 a.0 one_source one_target g h in λ i. Err (record { 0 = same i })
 
-one_address : (word : Option (List ℕ)) → IsOne word
-one_address None a b h k = h ∙ sym k
-one_address (Some text) None None h k = refl
-one_address (Some text) None (Some y) h k = absurd (h y k)
-one_address (Some text) (Some x) None h k = absurd (k x h)
-one_address (Some text) (Some x) (Some y) h k = ap Some (IsAddrText-unique text x y h k)
+-- an address text is that of one address
+abbrev AreUnique : Type 0
+AreUnique = (text : List ℕ) (a b : Addr) → IsAddrText text a → IsAddrText text b → a ≡ b
+
+one_address : AreUnique → (word : Option (List ℕ)) → IsOne word
+one_address unique None a b h k = h ∙ sym k
+one_address unique (Some text) None None h k = refl
+one_address unique (Some text) None (Some y) h k = absurd (h y k)
+one_address unique (Some text) (Some x) None h k = absurd (k x h)
+one_address unique (Some text) (Some x) (Some y) h k = ap Some (unique text x y h k)
 
 -- a text is read in one way
-pub read_one_way : (text : List ℕ) (r s : Result Packet PacketFault) → IsReadAs text r → IsReadAs text s → r ≡ s
-read_one_way text r s h k = one_reading text s r (one_address _) (one_address _) k h
+pub read_one_way : AreUnique → (text : List ℕ) (r s : Result Packet PacketFault) → IsReadAs text r → IsReadAs text s → r ≡ s
+read_one_way unique text r s h k = one_reading text s r (one_address unique _) (one_address unique _) k h

@@ -9,6 +9,7 @@ use Rattle.pf_rule.specs.declared.walk.Decision.{Decision}
 use Rattle.pf_parts.specs.ParamText.{log_text, tag_text, queue_text, prio_text, scrub_text, label_text}
 use Rattle.pf_parts.specs.Parts.{joined, word_if, with_number}
 use Rattle.pf_parts.specs.StateText.{state_text}
+use Rattle.pf_record.specs.TranslationText.{nat_text, rdr_text}
 
 -- What stands in an answer, with the tag that the packet has at the end. A blocked packet has neither a state nor
 -- parameters other than `log`.
@@ -21,6 +22,8 @@ answer_parts Pass tag decision =
     ∷ option_map prio_text decision.params.prio
     ∷ with_number (codes "tos") decision.params.tos
     ∷ scrub_text decision.params.scrub
+    ∷ option_map nat_text decision.params.nat
+    ∷ option_map rdr_text decision.params.rdr
     ∷ word_if decision.params.allow_opts (codes "allow-opts")
     ∷ option_map label_text decision.label
     ∷ []

@@ -4,9 +4,10 @@ use Rattle.std.specs.List.{list_any, starts_with}
 use Rattle.std.specs.Option.{option_or, option_map, option_map_or}
 use Rattle.pf_base.specs.Decimal.{decimal_of}
 use Rattle.pf_base.specs.Name.{is_plain_name}
+use Rattle.pf_ops.specs.Words.{flags_of}
 use Rattle.pf_record.specs.declared.field.Field.{Field}
 use Rattle.pf_record.specs.declared.field.Field.TheVariants.{Sport, Dport, Flags, Icmptype, Code, Tos, Prio, User, Group, Tag, Extra}
-use Rattle.pf_record.specs.Words.{is_tcp, has_ports, has_types, flags_of}
+use Rattle.pf_record.specs.Words.{is_tcp, has_ports, has_types, most_byte, most_owner, most_port, most_prio}
 
 -- A key: how its words begin, the field that its fault names, the protocols that have it, whether each record of
 -- such a protocol gives it, and the values that it takes.
@@ -33,15 +34,15 @@ key begins field has always takes = record { begins = begins; field = field; has
 -- the keys, in the order in which they stand
 unfoldable pub keys : List Key
 keys =
-    key (codes "sport=") Sport has_ports true (is_number 65535)
-    ∷ key (codes "dport=") Dport has_ports true (is_number 65535)
+    key (codes "sport=") Sport has_ports true (is_number most_port)
+    ∷ key (codes "dport=") Dport has_ports true (is_number most_port)
     ∷ key (codes "flags=") Flags is_tcp false is_flags
-    ∷ key (codes "icmptype=") Icmptype has_types true (is_number 255)
-    ∷ key (codes "code=") Code has_types true (is_number 255)
-    ∷ key (codes "tos=") Tos any_proto false (is_number 255)
-    ∷ key (codes "prio=") Prio any_proto false (is_number 7)
-    ∷ key (codes "user=") User has_ports false (is_number 4294967295)
-    ∷ key (codes "group=") Group has_ports false (is_number 4294967295)
+    ∷ key (codes "icmptype=") Icmptype has_types true (is_number most_byte)
+    ∷ key (codes "code=") Code has_types true (is_number most_byte)
+    ∷ key (codes "tos=") Tos any_proto false (is_number most_byte)
+    ∷ key (codes "prio=") Prio any_proto false (is_number most_prio)
+    ∷ key (codes "user=") User has_ports false (is_number most_owner)
+    ∷ key (codes "group=") Group has_ports false (is_number most_owner)
     ∷ key (codes "tag=") Tag any_proto false is_plain_name
     ∷ []
 

@@ -8,6 +8,7 @@ use Rattle.pf_base.specs.Text.{fields_of}
 use Rattle.pf_base.specs.Name.{plain_name}
 use Rattle.pf_addr.specs.Addr.{SameFamily}
 use Rattle.pf_addr.specs.declared.addr.Addr.{Addr}
+use Rattle.pf_ops.specs.Words.{flags_of, proto_of}
 use Rattle.pf_rule.specs.declared.packet.Packet.{Packet}
 use Rattle.pf_record.specs.declared.field.Field.{Field}
 use Rattle.pf_record.specs.declared.field.Field.TheVariants.{Sport, Dport, Flags, Icmptype, Code, Tos, Prio, User, Group, Tag, Extra}
@@ -16,7 +17,7 @@ use Rattle.pf_record.specs.declared.head.Head.{Head}
 use Rattle.pf_record.specs.declared.head.Start.{Start}
 use Rattle.pf_record.specs.declared.values.KeyValues.{KeyValues}
 use Rattle.pf_record.specs.Record.{Values, Writes, perhaps}
-use Rattle.pf_record.specs.Words.{direction_of, proto_of, is_tcp, has_ports, has_types, flags_of}
+use Rattle.pf_record.specs.Words.{direction_of, is_tcp, has_ports, has_types, most_byte, most_owner, most_port, most_prio, plain_prio, plain_tos}
 
 -- the words of what is left, where something is left
 abbrev pub words_left : Option (List ℕ) → List (List ℕ)
@@ -113,31 +114,31 @@ fault_in (Err fault) = Some fault.0
 
 -- what each key says
 abbrev pub sport_read : ℕ → Values → Result (Option ℕ) PacketFault
-sport_read proto v = value_read (has_ports proto) (perhaps (decimal_of 65535)) None Sport v.sport
+sport_read proto v = value_read (has_ports proto) (perhaps (decimal_of most_port)) None Sport v.sport
 
 abbrev pub dport_read : ℕ → Values → Result (Option ℕ) PacketFault
-dport_read proto v = value_read (has_ports proto) (perhaps (decimal_of 65535)) None Dport v.dport
+dport_read proto v = value_read (has_ports proto) (perhaps (decimal_of most_port)) None Dport v.dport
 
 abbrev pub flags_read : ℕ → Values → Result ℕ PacketFault
 flags_read proto v = value_read (is_tcp proto) flags_of 0 Flags v.flags
 
 abbrev pub icmptype_read : ℕ → Values → Result (Option ℕ) PacketFault
-icmptype_read proto v = value_read (has_types proto) (perhaps (decimal_of 255)) None Icmptype v.icmptype
+icmptype_read proto v = value_read (has_types proto) (perhaps (decimal_of most_byte)) None Icmptype v.icmptype
 
 abbrev pub code_read : ℕ → Values → Result (Option ℕ) PacketFault
-code_read proto v = value_read (has_types proto) (perhaps (decimal_of 255)) None Code v.code
+code_read proto v = value_read (has_types proto) (perhaps (decimal_of most_byte)) None Code v.code
 
 abbrev pub tos_read : Values → Result ℕ PacketFault
-tos_read v = value_read true (decimal_of 255) 0 Tos v.tos
+tos_read v = value_read true (decimal_of most_byte) plain_tos Tos v.tos
 
 abbrev pub prio_read : Values → Result ℕ PacketFault
-prio_read v = value_read true (decimal_of 7) 3 Prio v.prio
+prio_read v = value_read true (decimal_of most_prio) plain_prio Prio v.prio
 
 abbrev pub user_read : ℕ → Values → Result (Option ℕ) PacketFault
-user_read proto v = value_read (has_ports proto) (perhaps (decimal_of 4294967295)) None User v.user
+user_read proto v = value_read (has_ports proto) (perhaps (decimal_of most_owner)) None User v.user
 
 abbrev pub group_read : ℕ → Values → Result (Option ℕ) PacketFault
-group_read proto v = value_read (has_ports proto) (perhaps (decimal_of 4294967295)) None Group v.group
+group_read proto v = value_read (has_ports proto) (perhaps (decimal_of most_owner)) None Group v.group
 
 abbrev pub tag_read : Values → Result (Option (List ℕ)) PacketFault
 tag_read v = value_read true (perhaps plain_name) None Tag v.tag

@@ -9,13 +9,14 @@ use Rattle.pf_base.specs.Text.{fields_of}
 use Rattle.pf_addr.specs.Addr.{SameFamily, same_family}
 use Rattle.pf_addr.specs.Grammar.{IsAddrText}
 use Rattle.pf_addr.specs.declared.addr.Addr.{Addr}
+use Rattle.pf_ops.specs.Words.{flags_of, proto_of}
 use Rattle.pf_parts.specs.declared.direction.Direction.{Direction}
 use Rattle.pf_rule.specs.declared.packet.Packet.{Packet}
 use Rattle.pf_record.specs.declared.field.Field.{Field}
 use Rattle.pf_record.specs.declared.field.Field.TheVariants as field
 use Rattle.pf_record.specs.declared.field.PacketFault.{PacketFault}
 use Rattle.pf_record.specs.Keys.{keys_fault}
-use Rattle.pf_record.specs.Words.{direction_of, proto_of, is_tcp, has_ports, has_types, flags_of}
+use Rattle.pf_record.specs.Words.{direction_of, is_tcp, has_ports, has_types, most_byte, most_owner, most_port, most_prio, plain_prio, plain_tos}
 
 -- the values of the keys of a record, each where its key is given
 pub record Values : Type 0 where
@@ -60,15 +61,15 @@ perhaps read value = option_map Some (read value)
 
 -- the values say this of the packet
 pub record AreSaid (values : Values) (p : Packet) : Type 0 where
-  pub sport : Says (perhaps (decimal_of 65535)) None values.sport p.source_port
-  pub dport : Says (perhaps (decimal_of 65535)) None values.dport p.target_port
+  pub sport : Says (perhaps (decimal_of most_port)) None values.sport p.source_port
+  pub dport : Says (perhaps (decimal_of most_port)) None values.dport p.target_port
   pub flags : Says flags_of 0 values.flags p.flags
-  pub icmptype : Says (perhaps (decimal_of 255)) None values.icmptype p.icmp_type
-  pub code : Says (perhaps (decimal_of 255)) None values.code p.icmp_code
-  pub tos : Says (decimal_of 255) 0 values.tos p.tos
-  pub prio : Says (decimal_of 7) 3 values.prio p.prio
-  pub user : Says (perhaps (decimal_of 4294967295)) None values.user p.user
-  pub group : Says (perhaps (decimal_of 4294967295)) None values.group p.group
+  pub icmptype : Says (perhaps (decimal_of most_byte)) None values.icmptype p.icmp_type
+  pub code : Says (perhaps (decimal_of most_byte)) None values.code p.icmp_code
+  pub tos : Says (decimal_of most_byte) plain_tos values.tos p.tos
+  pub prio : Says (decimal_of most_prio) plain_prio values.prio p.prio
+  pub user : Says (perhaps (decimal_of most_owner)) None values.user p.user
+  pub group : Says (perhaps (decimal_of most_owner)) None values.group p.group
   pub tag : Says (perhaps plain_name) None values.tag p.tag
 
 -- the keys that are given are those that a record of this protocol gives or may give

@@ -7,8 +7,10 @@ ghost use Rattle.pf_parts.specs.BlockText.{block_text};
 ghost use Rattle.pf_parts.specs.ParamText.{log_text, prio_text, queue_text, scrub_text, tag_text};
 ghost use Rattle.pf_parts.specs.Parts.{joined, spaced, with_number, word_if};
 ghost use Rattle.pf_parts.specs.StateText.{state_text};
+ghost use Rattle.pf_record.specs.TranslationText.{nat_text, rdr_text};
 ghost use Rattle.pf_rule.specs.Effect.{is_deciding};
 
+use crate::translation::{put_nat, put_rdr};
 use pf_base::{Name, NoMemory};
 use pf_parts::{
     BlockKind, Log, put, put_allow_opts, put_block_kind, put_label, put_log, put_prio, put_queue,
@@ -56,13 +58,16 @@ fn put_set(out: &mut Vec<u8>, params: &Params) -> Result<(), NoMemory>
     Ok(())
 }
 
-// How a packet is normalised, and whether it may have IP options.
-fn put_normal(out: &mut Vec<u8>, params: &Params) -> Result<(), NoMemory>
-    ensures ok { OnOk result (out.new.items
-        ≡ out.old.items ++ (spaced (scrub_text params.now.scrub) ++ spaced (word_if params.now.allow_opts (codes "allow-opts")))) }
+// How a packet is normalised and translated, and whether it may have IP options.
+fn put_changes(out: &mut Vec<u8>, params: &Params) -> Result<(), NoMemory>
+    ensures ok { OnOk result (out.new.items ≡ out.old.items ++ (spaced (scrub_text params.now.scrub)
+        ++ spaced (option_map nat_text params.now.nat) ++ spaced (option_map rdr_text params.now.rdr)
+        ++ spaced (word_if params.now.allow_opts (codes "allow-opts")))) }
     ensures kept { Extends out.old.items out.new.items }
 {
     put_scrub(out, &params.scrub)?;
+    put_nat(out, &params.nat)?;
+    put_rdr(out, &params.rdr)?;
     put_allow_opts(out, params.allow_opts)?;
     Ok(())
 }
@@ -75,7 +80,7 @@ fn append_pass(out: &mut Vec<u8>, tag: &Option<Name>, decision: &Decision) -> Re
     put_passed(out, decision)?;
     put_log_and_tag(out, &decision.params.log, tag)?;
     put_set(out, &decision.params)?;
-    put_normal(out, &decision.params)?;
+    put_changes(out, &decision.params)?;
     put_label(out, &decision.label)?;
     Ok(())
 }

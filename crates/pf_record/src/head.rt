@@ -2,17 +2,17 @@
 ghost use Rattle.std.specs.Prelude.{◌≡◌, List, ℕ, Option, Some, IfOk, IfErr};
 ghost use Rattle.std.specs.Option.{option_copied};
 ghost use Rattle.pf_base.specs.Text.{fields_of};
-ghost use Rattle.pf_addr.specs.Addr.{same_family};
 ghost use Rattle.pf_addr.specs.declared.addr.Addr.{Addr as Address};
 ghost use Rattle.pf_record.specs.Reading.{IsHead, Starts, TakesWord, words_left};
 ghost use Rattle.pf_record.specs.Record.{Writes, fault_of};
 
 use crate::field::{Field, PacketFault};
-use crate::words::{direction_of, proto_of};
+use crate::words::direction_of;
 use pf_addr::{Addr, parse_addr};
 use pf_base::text::split_field;
 use pf_base::{Name, plain_name};
-use pf_rule::Direction;
+use pf_ops::proto_of;
+use pf_parts::Direction;
 
 /// What the first five words say, each where it is there and has its form.
 #[derive(Clone, Copy)]
@@ -88,7 +88,7 @@ impl Head {
         let proto = self.proto.ok_or(PacketFault(Field::Protocol))?;
         let source = self.source.ok_or(PacketFault(Field::Source))?;
         let target = self.target.ok_or(PacketFault(Field::Destination))?;
-        if !is_one_family(&source, &target) {
+        if !source.same_family(&target) {
             return Err(PacketFault(Field::Destination));
         }
         Ok(Start {
@@ -99,13 +99,4 @@ impl Head {
             target,
         })
     }
-}
-
-fn is_one_family(a: &Addr, b: &Addr) -> bool
-    ensures { result ≡ same_family a.now b.now }
-{
-    matches!(
-        (a, b),
-        (Addr::V4(_), Addr::V4(_)) | (Addr::V6(_), Addr::V6(_))
-    )
 }

@@ -6,6 +6,7 @@ use crate::field::PacketFault;
 use crate::head::Head;
 use crate::said::packet_of;
 use crate::values::KeyValues;
+use pf_addr::texts_are_read_in_one_way;
 use pf_rule::Packet;
 
 /// Reads the record of a packet: words between single spaces. They are the direction `in` or `out`, the
@@ -28,4 +29,6 @@ pub fn read_packet(text: &[u8]) -> Result<Packet, PacketFault>
 /// A law: a text is read in one way, as one packet or with one fault.
 pub fn a_record_is_read_one_way()
     ensures { (text : List ℕ) (a b : Result Packet PacketFault) → IsReadAs text a → IsReadAs text b → a ≡ b }
-{}
+{
+    texts_are_read_in_one_way();
+}

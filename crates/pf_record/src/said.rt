@@ -5,15 +5,16 @@ ghost use Rattle.pf_base.specs.Decimal.{decimal_of};
 ghost use Rattle.pf_base.specs.Name.{plain_name as name_of};
 ghost use Rattle.pf_record.specs.Reading.{IsPacketOf, end_fault, fault_in, value_read, values_fault, values_of};
 ghost use Rattle.pf_record.specs.Record.{perhaps};
-ghost use Rattle.pf_record.specs.Words as says;
+ghost use Rattle.pf_ops.specs.Words as says;
 ghost use Rattle.pf_record.specs.declared.field.Field.TheVariants as field_name;
 
 use crate::field::{Field, PacketFault};
 use crate::head::Start;
 use crate::values::KeyValues;
-use crate::words::{flags_of, has_ports, has_types, is_tcp};
+use crate::words::{has_ports, has_types, is_tcp};
 use pf_base::text::decimal;
 use pf_base::{Name, plain_name};
+use pf_ops::flags_of;
 use pf_rule::Packet;
 
 // The greatest port.

@@ -3,7 +3,7 @@ use pf_addr::Addr;
 use pf_base::Name;
 use pf_rule::{
     Action, Answer, BlockKind, Decision, Direction, Flush, Log, Overload, Packet, Params, Prios,
-    Queues, Rate, Scrub, StateKind, StateOptions, Track,
+    Queues, Rate, Scrub, StateKind, StateOptions, Target, Track,
 };
 use std::test::Fail;
 
@@ -109,6 +109,12 @@ fn the_first_fault_is_told(rt: HostRuntime) {
     }
 }
 
+// Another target, as `rdr-to` gives it.
+const WEB: Target = Target {
+    addr: Addr::V4(0x0a00_0005),
+    port: Some(8080),
+};
+
 // The options and parameters with each part.
 fn full() -> Result<Decision, Fail> {
     Ok(Decision {
@@ -159,6 +165,11 @@ fn full() -> Result<Decision, Fail> {
                 to: Some(name("pflog0")?),
             },
             allow_opts: true,
+            nat: Some(Target {
+                addr: Addr::V4(0xc000_020a),
+                port: None,
+            }),
+            rdr: Some(WEB),
         },
         label: Some(name("hello there")?),
     })
@@ -202,6 +213,8 @@ fn plain(action: Action, state: StateKind) -> Decision {
                 to: None,
             },
             allow_opts: false,
+            nat: None,
+            rdr: None,
         },
         label: None,
     }
@@ -225,6 +238,15 @@ fn answers_are_printed(rt: HostRuntime) -> Result<(), Fail> {
         action: Action::Block(BlockKind::Icmp { code: 3, code6: 4 }),
         ..full
     };
+    let plain_pass = plain(Action::Pass, StateKind::Keep);
+    let translated = Decision {
+        params: Params {
+            rdr: Some(WEB),
+            ..plain_pass.params
+        },
+        ..plain_pass
+    };
+    let seen = Some(name("seen")?);
     let reset = Action::Block(BlockKind::Rst { ttl: 0 });
     let ttl = Action::Block(BlockKind::Rst { ttl: 255 });
     for (skip, tag, decision, text) in [
@@ -233,7 +255,7 @@ fn answers_are_printed(rt: HostRuntime) -> Result<(), Fail> {
             false,
             any,
             full,
-            "pass synproxy state (max 1, source-track rule, max-src-nodes 2, max-src-states 3, max-src-conn 4294967295, max-src-conn-rate 8/9, overload <bad> flush global, sloppy, no-sync, pflow, if-bound) log (all, matches, user, to pflog0) tag \"any\" queue (\"$a\", b) prio (3, 6) tos 16 scrub (no-df, random-id, reassemble tcp, min-ttl 255, max-mss 0) allow-opts label \"hello there\"",
+            "pass synproxy state (max 1, source-track rule, max-src-nodes 2, max-src-states 3, max-src-conn 4294967295, max-src-conn-rate 8/9, overload <bad> flush global, sloppy, no-sync, pflow, if-bound) log (all, matches, user, to pflog0) tag \"any\" queue (\"$a\", b) prio (3, 6) tos 16 scrub (no-df, random-id, reassemble tcp, min-ttl 255, max-mss 0) nat-to 192.0.2.10 rdr-to 10.0.0.5 port 8080 allow-opts label \"hello there\"",
         ),
         (
             false,
@@ -249,6 +271,12 @@ fn answers_are_printed(rt: HostRuntime) -> Result<(), Fail> {
         ),
         (
             false,
+            seen,
+            translated,
+            "pass keep state tag seen rdr-to 10.0.0.5 port 8080",
+        ),
+        (
+            false,
             None,
             plain(reset, StateKind::Keep),
             "block return-rst",
@@ -261,13 +289,18 @@ fn answers_are_printed(rt: HostRuntime) -> Result<(), Fail> {
         ),
     ] {
         let mut out = Vec::new(rt.alloc());
+        out.extend_from_slice(b"> ")?;
         let answer = Answer {
             skip,
             tag,
             decision,
         };
         print(&mut out, &answer)?;
-        assert_eq!(rt; out.as_slice(), text.as_bytes(), "{text}");
+        assert_eq!(rt;
+            out.as_slice().strip_prefix(b"> "),
+            Some(text.as_bytes()),
+            "{text}"
+        );
     }
     Ok(())
 }

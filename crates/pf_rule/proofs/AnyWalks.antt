@@ -1,5 +1,5 @@
 -- Walks through lists of rules, for any kind of walk and of rule.
-use Rattle.std.proofs.Common.{◌≡◌, ℕ, zero, suc, ◌+◌, ◌<◌, ◌≤◌, length, Bool, true, false, cond, ◌||◌, List, [], ◌∷◌, ◌++◌, All, map, refl, ap, sym, ◌∙◌, arith}
+use Rattle.std.proofs.Common.{◌≡◌, ℕ, zero, suc, ◌+◌, ◌≤◌, length, Bool, true, false, cond, ◌||◌, List, [], ◌∷◌, ◌++◌, All, map, refl, ap, sym, ◌∙◌, arith}
 use Rattle.pf_rule.specs.Walking.{DoAlike, IsSeenAs, OneEffect, Walking, once, reached_through, some_hits, walked_past, walked_through}
 
 -- what holds of all elements holds of the first

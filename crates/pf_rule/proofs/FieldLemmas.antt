@@ -1,5 +1,5 @@
 -- Rules that are equal in a skip field.
-use Rattle.std.proofs.Common.{◌≡◌, ℕ, zero, suc, ◌+◌, ◌≤◌, Bool, true, false, not, ◌&&◌, Option, Some, None, unwrap_or, List, [], ◌∷◌, slice_get, refl, ap, sym, ◌∙◌, arith, zero-add}
+use Rattle.std.proofs.Common.{◌≡◌, ℕ, zero, suc, ◌+◌, ◌≤◌, Bool, true, false, not, ◌&&◌, Some, unwrap_or, List, [], ◌∷◌, slice_get, refl, ap, sym, ◌∙◌, arith, zero-add}
 use Rattle.std.specs.List.{position_from}
 use Rattle.pf_addr.specs.Addr.{is_of_family}
 use Rattle.pf_rule.specs.Around.{Around}

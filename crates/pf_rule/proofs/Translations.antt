@@ -1,12 +1,11 @@
 -- Translations of packets.
 use Rattle.std.proofs.Common.{◌≡◌, ℕ, Bool, true, false, cond, eqb, Option, Some, None, refl, ap, sym, ◌∙◌, eq-eqb}
 use Rattle.std.specs.Option.{option_or}
-use Rattle.std.proofs.lemmas.Bool.Decides.{nat_tests}
 use borrow.Author.Tests.{eqb-true}
 use Rattle.pf_addr.specs.Addr.{same_family, width}
 use Rattle.pf_addr.specs.declared.addr.Addr.{Addr}
 use Rattle.pf_rule.specs.Criteria.{is_tcp_or_udp}
-use Rattle.pf_rule.specs.Translation.{if_translated, port_behind, source_changed, suits, target_changed, target_over, translated}
+use Rattle.pf_rule.specs.Translation.{port_behind, source_changed, suits, target_changed, target_over, translated}
 use Rattle.pf_rule.specs.declared.packet.Packet.{Packet}
 use Rattle.pf_rule.specs.declared.translation.Target.{Target}
 

@@ -127,8 +127,8 @@ criteria_of_rules =
     })
     (λ _. refl)
     (pairs
-      (pairs interface_tests (pairs (options directions) (pairs (options families) (pairs (options numbers) (pairs address_tests (pairs (options sets) (pairs address_tests (options sets))))))))
-      (pairs (options sets) (pairs (options sets) (pairs (options tcp_flags) (pairs (options icmp_types) (pairs (options numbers) (pairs (options numbers) tag_tests)))))))
+    (pairs interface_tests (pairs (options directions) (pairs (options families) (pairs (options numbers) (pairs address_tests (pairs (options sets) (pairs address_tests (options sets))))))))
+    (pairs (options sets) (pairs (options sets) (pairs (options tcp_flags) (pairs (options icmp_types) (pairs (options numbers) (pairs (options numbers) tag_tests)))))))
 
 abbrev pub targets : Equality Target
 targets = made_of (λ target. (target.addr, target.port)) (λ parts. record { addr = parts.0; port = parts.1 }) (λ _. refl) (pairs addrs (options numbers))

@@ -40,9 +40,8 @@ impl Same for AddrSet {
             },
             AddrSet::Auto(one) => match other {
                 AddrSet::Auto(second) => one.same(second),
-                AddrSet::Prefix(_) | AddrSet::Range(_) | AddrSet::Table(_) | AddrSet::Dynamic(_) => {
-                    false
-                }
+                AddrSet::Prefix(_) | AddrSet::Range(_) | AddrSet::Table(_) | AddrSet::Dynamic(_) =>
+                    { false }
             },
         }
     }
@@ -61,7 +60,8 @@ impl Same for AddrTest {
                     what: second,
                 },
             ) => negated.same(turned) && what.same(second),
-            (AddrTest::Any, AddrTest::Test { .. }) | (AddrTest::Test { .. }, AddrTest::Any) => false,
+            (AddrTest::Any, AddrTest::Test { .. }) | (AddrTest::Test { .. }, AddrTest::Any) =>
+                false,
         }
     }
 }

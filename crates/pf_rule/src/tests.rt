@@ -652,8 +652,8 @@ fn target(addr_text: &str, port: Option<u16>) -> Result<Option<Target>, Fail> {
     }))
 }
 
-// What the rules with these translations of the source make of the source and target of a packet.
-fn translated(packet: &Packet, nat: &[Option<Target>]) -> Result<Walk, Fail> {
+// A packet behind match rules with these translations of the source, and the one that is answered.
+fn translated(packet: &Packet, nat: &[Option<Target>]) -> Result<(Packet, Option<Target>), Fail> {
     let mut walk = Walk::begin(packet);
     for new in nat {
         let mut effect = MATCH;
@@ -664,34 +664,37 @@ fn translated(packet: &Packet, nat: &[Option<Target>]) -> Result<Walk, Fail> {
         };
         probed(&mut walk, &rule)?;
     }
-    Ok(walk)
+    Ok((walk.packet, answer(&walk).decision.params.nat))
 }
 
 #[test]
 fn match_rules_translate(rt: HostRuntime) -> Result<(), Fail> {
     let ported = target("192.0.2.10", Some(5000))?;
     let plain = target("192.0.2.11", None)?;
-    let other_family = target("2001:db8::1", Some(5000))?;
-    for (proto, nat, source, port) in [
-        (6, [ported, None], "192.0.2.10", 5000),
-        (17, [ported, plain], "192.0.2.11", 5000),
-        (6, [plain, None], "192.0.2.11", 1024),
-        (1, [ported, None], "192.0.2.10", 1024),
-        (6, [other_family, None], "10.0.0.1", 1024),
+    let joined = target("192.0.2.11", Some(5000))?;
+    let inet6 = target("2001:db8::1", Some(5000))?;
+    for (proto, nat, source, port, answered) in [
+        (6, [ported, None], "192.0.2.10", 5000, ported),
+        (17, [ported, plain], "192.0.2.11", 5000, joined),
+        (6, [plain, None], "192.0.2.11", 1024, plain),
+        (1, [ported, None], "192.0.2.10", 1024, ported),
+        (6, [inet6, None], "10.0.0.1", 1024, inet6),
     ] {
         let packet = Packet {
             proto,
             ..syn("10.0.0.1", "198.51.100.7", 80)?
         };
-        let walk = translated(&packet, &nat)?;
-        let want = addr(source)?;
-        assert_eq!(rt; walk.packet.source, want, "{proto} {nat:?}");
-        assert_eq!(rt; walk.packet.source_port, Some(port), "{proto} {nat:?}");
-        assert_eq!(rt; walk.packet.target, packet.target, "{proto} {nat:?}");
-        assert_eq!(rt; walk.packet.target_port, Some(80), "{proto} {nat:?}");
+        let want = Packet {
+            source: addr(source)?,
+            source_port: Some(port),
+            ..packet
+        };
+        assert_eq!(rt;
+            translated(&packet, &nat)?,
+            (want, answered),
+            "{proto} {nat:?}"
+        );
     }
-    let walk = translated(&syn("10.0.0.1", "198.51.100.7", 80)?, &[ported, plain])?;
-    assert_eq!(rt; answer(&walk).decision.params.nat, target("192.0.2.11", Some(5000))?);
     Ok(())
 }
 

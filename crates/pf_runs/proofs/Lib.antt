@@ -1,3 +1,1 @@
-pub mod Appended
-pub mod RunLemmas
 pub mod Scripts

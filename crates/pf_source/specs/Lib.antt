@@ -7,3 +7,6 @@ pub mod Memory
 pub mod Real
 pub mod Streams
 pub mod Told
+pub mod AskingLaws
+pub mod DiskLaws
+pub mod KnownLaws

@@ -2,7 +2,7 @@ pub mod CellLemmas
 pub mod Coming
 pub mod DollarLemmas
 pub mod FileLemmas
-pub mod MapLemmas
+pub mod NameLemmas
 pub mod PieceSteps
 pub mod QuotedLemmas
 pub mod Runs

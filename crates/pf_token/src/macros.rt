@@ -6,7 +6,7 @@ ghost use Rattle.std.specs.Ordering.{nat_cmp};
 ghost use Rattle.std.specs.Option.{option_copied};
 ghost use Rattle.pf_token.specs.Macros.{value_of, values_of, with_definition};
 
-use pf_base::{List, Name, NoMemory, Text};
+use pf_base::{List, Name, NoMemory, Text, name_map_laws};
 use std::alloc::Global;
 use std::collections::BTreeMap;
 use std::marker::Model;
@@ -47,6 +47,7 @@ fn keep_value(
     ensures kept { IfOk result (λ _. map.from_entries {R = slice_cmp nat_cmp} values.new.entries ≡ map.insert (map.from_entries {R = slice_cmp nat_cmp} values.old.entries) name value.now) }
     ensures err { OnErr result (values.new.entries ≡ values.old.entries) }
 {
+    name_map_laws::<Text>();
     let value = Vec::from_slice(alloc, value)?;
     values.insert(name, List::of(value))?;
     Ok(())
@@ -56,6 +57,7 @@ fn keep_value(
 fn look_up<'a>(values: &'a BTreeMap<Name, Text>, name: &Name) -> Option<&'a [u8]>
     ensures { option_copied result ≡ map.get (map.from_entries {R = slice_cmp nat_cmp} values.now.entries) name.now }
 {
+    name_map_laws::<Text>();
     let value = values.get(name)?;
     Some(value.items())
 }

@@ -1,5 +1,5 @@
 //! The use of a macro, pf.conf(5), MACROS: `$` and a name.
-ghost use Rattle.std.specs.Prelude.{◌≡◌, ◌≤◌, ◌<◌, ◌^◌, ◌+◌, IfOk, IsSomeAnd, length, take};
+ghost use Rattle.std.specs.Prelude.{◌≡◌, ◌<◌, ◌^◌, ◌+◌, IfOk, IsSomeAnd};
 ghost use Rattle.pf_base.specs.declared.fault.Place.{Place};
 ghost use Rattle.pf_token.specs.Bytes.{class_of};
 ghost use Rattle.pf_token.specs.Cells.{first_cell, has_dollar};
@@ -10,7 +10,7 @@ ghost use Rattle.pf_token.specs.Reading.{step, macro_step, use_step, weight, IsP
 use crate::cells::FileCells;
 use crate::macros::Macros;
 use crate::token::Cause;
-use pf_base::{Name, NoMemory, Place};
+use pf_base::{NoMemory, Place, named_in_fault};
 use std::alloc::Global;
 
 /// What stands behind a `$`.
@@ -29,18 +29,6 @@ fn has_dollar(value: &[u8]) -> bool
     value.iter().any(|byte| *byte == b'$')
 }
 
-/// A name as a fault carries it: its first 63 bytes.
-fn first_bytes(name: &[u8]) -> Name
-    requires { 1 ≤ length name.now }
-    ensures { result ≡ take 63 name.now }
-{
-    let end = name.len().min(63);
-    match Name::new(&name[..end]) {
-        Some(word) => word,
-        None => unreachable!(),
-    }
-}
-
 /// What the name behind a `$` stands for.
 fn look_up(alloc: Global, name: &[u8], macros: &Macros) -> Result<MacroUse, NoMemory>
     ensures found { IfOk result (λ found. IsUseOf found name.now (value_of macros.now name.now)) }
@@ -50,7 +38,7 @@ fn look_up(alloc: Global, name: &[u8], macros: &Macros) -> Result<MacroUse, NoMe
         return Ok(MacroUse::Refused(Cause::MacroName));
     }
     match macros.find(name) {
-        None => Ok(MacroUse::Refused(Cause::MacroUndefined(first_bytes(name)))),
+        None => Ok(MacroUse::Refused(Cause::MacroUndefined(named_in_fault(name)))),
         Some(value) => {
             if has_dollar(value) {
                 Ok(MacroUse::Refused(Cause::Syntax))

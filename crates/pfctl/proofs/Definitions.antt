@@ -3,7 +3,7 @@ use Rattle.std.proofs.Common.{◌≡◌, ℕ, ◌+◌, ◌==◌, Bool, true, fal
 use Rattle.std.proofs.lemmas.Bool.{eqb-true}
 use Rattle.std.specs.List.{list_all}
 use Rattle.std.specs.Cmp.{first_so, second_so}
-use Rattle.pf_base.proofs.Cuts.{IsFirst, NonePasses, not_true}
+use Rattle.pf_base.specs.CutLaws.{IsFirst, NonePasses, not_true}
 use Rattle.pfctl.specs.Command.{name_in, value_in}
 
 abbrev pub is_equals : ℕ → Bool

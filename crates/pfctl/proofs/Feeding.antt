@@ -4,14 +4,14 @@ use Rattle.std.specs.List.{filter}
 use Rattle.pf_base.specs.Text.{whole_lines, unfinished, IsOneLine, CutsLine, EndsNoLine}
 use Rattle.pf_source.specs.Told.{SinkTold}
 use Rattle.pf_runs.specs.Runs.{Executes, Stops}
-use Rattle.pf_runs.proofs.RunLemmas.{executes_nothing, executes_on, stops_on, stops_sooner}
+use Rattle.pf_runs.specs.RunLaws.{executes_nothing, executes_on, stops_on, stops_sooner}
 use Rattle.pfctl.specs.declared.session.Session.{Session}
 use Rattle.pfctl.specs.declared.session.Stop.{Stop}
 use Rattle.pfctl.specs.declared.session.Stop.TheVariants as stop
 use Rattle.pfctl.specs.Doing.{RunsOver, StopsOver, cause_of, world}
 use Rattle.pfctl.specs.Input.{says_something, test_line, test_lines}
 use Rattle.pfctl.specs.Step.{step}
-use Rattle.pfctl.proofs.Sessions.{Keeps-same, may_fail_same, no_memory}
+use Rattle.pfctl.proofs.Sessions.{may_fail_same, no_memory_unsent}
 
 pub test_lines-append : (xs ys : List (List ℕ)) → test_lines (xs ++ ys) ≡ test_lines xs ++ test_lines ys
 test_lines-append [] ys = refl
@@ -41,7 +41,7 @@ stops_over_sooner why a c old new xs ys h disk files =
     (stops_sooner step disk (cause_of why) (test_lines xs) (test_lines ys) (world a files old) (world c files new) (h disk files))
 
 pub no_memory_over : (a c : Session) (sink : SinkTold) (lines : List (List ℕ)) → StopsOver stop.NoMemory a c sink sink lines
-no_memory_over a c sink lines disk files = no_memory disk (test_lines lines) (world a files sink) (world c files sink) (may_fail_same files) (Keeps-same sink.written)
+no_memory_over a c sink lines disk files = no_memory_unsent disk (test_lines lines) (world a files sink) (world c files sink) refl (may_fail_same files)
 
 -- Of a text, the lines up to what is left were executed: `kept` stands behind the last of them, and then `rest`.
 pub record Fed (first now : Session) (old new : SinkTold) (text kept rest : List ℕ) : Type 0 where

@@ -1,7 +1,8 @@
 -- What the machine does with a line, by its command.
 use Rattle.std.proofs.Common.{◌≡◌, ℕ, true, false, List, refl, sym, subst}
 use Rattle.std.specs.List.{list_all}
-use Rattle.pf_runs.specs.Runs.{Disk, Stepped}
+use Rattle.pf_source.specs.Disk.{Disk}
+use Rattle.pf_runs.specs.Runs.{Stepped}
 use Rattle.pfctl.specs.Command.{Command, None_of_these, is_plain, behind_blanks, test_of, command_of}
 use Rattle.pfctl.specs.Machine.{Machine}
 use Rattle.pfctl.specs.Input.{test_line}

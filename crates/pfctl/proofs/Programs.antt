@@ -1,25 +1,26 @@
 -- A run of the program: the load, and then the input.
-use Rattle.std.proofs.Common.{◌≡◌, ℕ, Bool, true, false, cond, codes, ◌&&◌, List, [], ◌∷◌, length, map, take, None, Some, Ok, Err, refl, sym, subst, arith, inl}
+use Rattle.std.proofs.Common.{◌≡◌, ◌≤◌, ℕ, Bool, true, false, cond, codes, ◌&&◌, List, [], ◌∷◌, ◌++◌, length, map, take, None, Some, Ok, Err, refl, subst, arith}
 use Rattle.std.specs.Prelude.{IfSome}
 use Rattle.std.specs.Str.{bytes_eq}
 use Rattle.std.specs.Cmp.{first_so, second_so}
 use Rattle.pf_base.specs.Text.{whole_lines, lines_of}
 use Rattle.pf_source.specs.Told.{FilesTold, SinkTold, SourceTold}
-use Rattle.pf_runs.specs.Runs.{Disk, World, Executes, Stops}
-use Rattle.pf_runs.proofs.RunLemmas.{executes_on, stops_on}
+use Rattle.pf_source.specs.Disk.{Disk}
+use Rattle.pf_runs.specs.Runs.{World, Executes, Stops}
+use Rattle.pf_source.specs.KnownLaws.{Consumes-nothing}
+use Rattle.pf_runs.specs.RunLaws.{executes_nothing, executes_on}
 use Rattle.pfctl.specs.declared.program.Status.TheVariants.{Words}
 use Rattle.pfctl.specs.declared.session.Session.{Session}
 use Rattle.pfctl.specs.declared.session.Ending.{Ending}
 use Rattle.pfctl.specs.declared.session.Ending.TheVariants as ending
 use Rattle.pfctl.specs.declared.session.Stop.{Stop}
 use Rattle.pfctl.specs.declared.session.Stop.TheVariants as stop
-use Rattle.pfctl.specs.Doing.{EndsInput, ReadsAll, ReadsUntilStop, RunsOver, StopsOver, cause_of, world}
-use Rattle.pfctl.specs.Input.{most_input, test_lines}
+use Rattle.pfctl.specs.Doing.{EndsInput, FailsByCount, ReadsAll, ReadsUntilStop, RunsOver, StopsBehind, at_last_line as at_last, cause_of, in_piece as within_piece, status_at, status_by, world}
+use Rattle.pfctl.specs.Input.{InputToPiece, ReadsToLast, SomeInput, last_line, lines_ending_in, most_input, test_lines}
 use Rattle.pfctl.specs.Machine.{Machine, empty_machine}
-use Rattle.pfctl.specs.Program.{Broke, Finished, Means, ProgramWords, Ran, gives_define, is_file_word, is_word, load_line, names_file, opening, outside, program_lines, status_at, status_by, words_read, words_with}
+use Rattle.pfctl.specs.Program.{Broke, Finished, HasCause, Means, ProgramWords, Ran, Stopped, at_last_line, at_load, gives_define, in_piece, is_file_word, is_word, load_line, names_file, opening, outside, program_lines, words_read, words_with}
 use Rattle.pfctl.specs.Step.{step}
-use Rattle.pfctl.proofs.Inputs.{Consumes-nothing}
-use Rattle.pfctl.proofs.Sessions.{Keeps-same, may_fail_same, no_memory}
+use Rattle.pfctl.proofs.Sessions.{fails_later, may_fail_same, no_memory_unsent}
 
 -- a session begins with the empty machine
 pub begins : (session : Session) (files : FilesTold) (source : SourceTold) (sink : SinkTold) → session.engine ≡ empty_machine → session.refused ≡ false → world session files sink ≡ opening (outside files source sink)
@@ -38,59 +39,52 @@ module _ (disk : Disk) (words : ProgramWords) (s0 s1 s2 : Session) (fa fb : File
         (executes_on step disk (load_line words.define words.file ∷ []) (test_lines lines) (world s0 fa wa) (world s1 fb wb) (world s2 fb wc) loaded (runs disk fb));
   }
 
-  broke_on : (why : Stop) → Loaded → ReadsUntilStop ia ib (StopsOver why s1 s2 wb wc) → Broke words disk (cause_of why) (outside fa ia wa) (outside fb ib wc)
-  broke_on why loaded h = record {
-    front = h.front;
-    reads = h.reads;
-    lines = h.lines;
-    are = h.are;
-    stopped = record {
-      machine = s2.engine;
-      any_refused = s2.refused;
-      stops = subst (λ (w : World Machine). Stops step disk (cause_of why) (program_lines words h.lines) w (world s2 fb wc)) begin
-          (stops_on step disk (cause_of why) (load_line words.define words.file ∷ []) (test_lines h.lines) (world s0 fa wa) (world s1 fb wb) (world s2 fb wc) loaded (h.over disk fb));
-    };
+  -- the load and the lines of the input before, and then a stop
+  stopped_on : (why : Stop) → Loaded → (lines next : List (List ℕ)) → StopsBehind why s1 s2 wb wc lines next → Stopped disk (cause_of why) (program_lines words lines) (test_lines next) (outside fa ia wa) (outside fb ib wc)
+  stopped_on why loaded lines next h = record {
+    mid = world h.mid fb h.sink;
+    executes = subst (λ (w : World Machine). Executes step disk (program_lines words lines) w (world h.mid fb h.sink)) begin
+        (executes_on step disk (load_line words.define words.file ∷ []) (test_lines lines) (world s0 fa wa) (world s1 fb wb) (world h.mid fb h.sink) loaded (h.runs disk fb));
+    machine = s2.engine;
+    any_refused = s2.refused;
+    stops = h.stops disk fb;
   }
+
+  broke_on : (why : Stop) → Loaded → ReadsUntilStop ia ib (StopsBehind why s1 s2 wb wc) → Broke words disk (cause_of why) (outside fa ia wa) (outside fb ib wc)
+  broke_on why loaded (within_piece h) = in_piece (record { input = h.part; stopped = stopped_on why loaded (whole_lines h.part.front) (lines_ending_in h.part.front h.part.piece) h.behind })
+  broke_on why loaded (at_last h) = at_last_line (record { input = h.whole; stopped = stopped_on why loaded (whole_lines h.whole.read.front) (last_line h.whole.read.front) h.behind })
 
   finished : Loaded → ReadsAll ia ib (RunsOver s1 s2 wb wc) → (refused : Bool) → s2.refused ≡ refused → Finished words disk refused (outside fa ia wa) (outside fb ib wc)
   finished loaded h refused e = record {
-    front = h.front;
-    reads = h.reads;
-    ended = h.ended;
-    within = h.within;
-    ran = subst (λ (b : Bool). Ran disk (program_lines words (lines_of h.front)) b (outside fa ia wa) (outside fb ib wc)) e (ran_on loaded (lines_of h.front) h.over);
+    input = h.whole;
+    ran = subst (λ (b : Bool). Ran disk (program_lines words (lines_of h.whole.read.front)) b (outside fa ia wa) (outside fb ib wc)) e (ran_on loaded (lines_of h.whole.read.front) h.over);
   }
 
   -- the run came to an end of the input
   pub means_ended : Loaded → (end : Ending) (any : Bool) → s2.refused ≡ any → EndsInput s1 s2 ia ib wb wc (Ok end) → Means words disk (outside fa ia wa) (outside fb ib wc) (status_at end any)
   means_ended loaded ending.AtEnd true e h = finished loaded h true e
   means_ended loaded ending.AtEnd false e h = finished loaded h false e
-  means_ended loaded ending.ReadFault any e h = record { front = h.front; reads = h.reads; within = h.within; any_refused = s2.refused; ran = ran_on loaded (whole_lines h.front) h.over }
-  means_ended loaded ending.TooMuch any e h = record { front = h.front; reads = h.reads; over = h.beyond; any_refused = s2.refused; ran = ran_on loaded (whole_lines (take most_input h.front)) h.over }
+  means_ended loaded ending.ReadFault any e h = record { input = h.part; any_refused = s2.refused; ran = ran_on loaded (whole_lines h.part.read.front) h.over }
+  means_ended loaded ending.TooMuch any e h = record { input = h.part; any_refused = s2.refused; ran = ran_on loaded (whole_lines (take most_input (h.part.read.front ++ h.part.read.piece))) h.over }
 
   -- the run stopped within the input
   pub means_stopped : Loaded → (why : Stop) → EndsInput s1 s2 ia ib wb wc (Err why) → Means words disk (outside fa ia wa) (outside fb ib wc) (status_by (Err why))
   means_stopped loaded stop.WriteFault h = broke_on stop.WriteFault loaded h
   means_stopped loaded stop.NoMemory h = broke_on stop.NoMemory loaded h
 
-no_lines : whole_lines [] ≡ []
-unfolding whole_lines
-no_lines = refl
-
 -- the run stopped at its load, before the input was read
 module _ (disk : Disk) (words : ProgramWords) (s0 s1 : Session) (fa fb : FilesTold) (ia : SourceTold) (wa wb : SinkTold) (begin : world s0 fa wa ≡ opening (outside fa ia wa)) where
   broke_first : (why : Stop) → Stops step disk (cause_of why) (load_line words.define words.file ∷ []) (world s0 fa wa) (world s1 fb wb) → Broke words disk (cause_of why) (outside fa ia wa) (outside fb ia wb)
-  broke_first why h = record {
-    front = [];
-    reads = record { consumed = Consumes-nothing ia.left; given = omega arith };
-    lines = [];
-    are = inl (sym no_lines);
+  broke_first why h = at_load (record {
+    unread = refl;
     stopped = record {
+      mid = opening (outside fa ia wa);
+      executes = executes_nothing step disk (opening (outside fa ia wa));
       machine = s1.engine;
       any_refused = s1.refused;
       stops = subst (λ (w : World Machine). Stops step disk (cause_of why) (load_line words.define words.file ∷ []) w (world s1 fb wb)) begin h;
     };
-  }
+  })
 
   pub means_unloaded : (why : Stop) → Stops step disk (cause_of why) (load_line words.define words.file ∷ []) (world s0 fa wa) (world s1 fb wb) → Means words disk (outside fa ia wa) (outside fb ia wb) (status_by (Err why))
   means_unloaded stop.WriteFault h = broke_first stop.WriteFault h
@@ -98,17 +92,44 @@ module _ (disk : Disk) (words : ProgramWords) (s0 s1 : Session) (fa fb : FilesTo
 
 -- no memory for the file's name: nothing was done
 pub means_nothing : (disk : Disk) (words : ProgramWords) (files : FilesTold) (source : SourceTold) (sink : SinkTold) → Means words disk (outside files source sink) (outside files source sink) (status_by (Err stop.NoMemory))
-means_nothing disk words files source sink = record {
-  front = [];
-  reads = record { consumed = Consumes-nothing source.left; given = omega arith };
-  lines = [];
-  are = inl (sym no_lines);
+means_nothing disk words files source sink = at_load (record {
+  unread = refl;
   stopped = record {
+    mid = opening (outside files source sink);
+    executes = executes_nothing step disk (opening (outside files source sink));
     machine = empty_machine;
     any_refused = false;
-    stops = no_memory disk (load_line words.define words.file ∷ []) (opening (outside files source sink)) (opening (outside files source sink)) (may_fail_same files) (Keeps-same sink.written);
+    stops = no_memory_unsent disk (load_line words.define words.file ∷ []) (opening (outside files source sink)) (opening (outside files source sink)) refl (may_fail_same files);
   };
-}
+})
+
+-- Why a status comes.
+
+nothing_read : (source : SourceTold) → SomeInput source source
+nothing_read source = record { front = []; reads = record { consumed = Consumes-nothing source.left; given = omega arith } }
+
+read_to_stop : (why : Stop) (a b : Session) (ia ib : SourceTold) (wa wb : SinkTold) → ReadsUntilStop ia ib (StopsBehind why a b wa wb) → SomeInput ia ib
+read_to_stop why a b ia ib wa wb (within_piece h) = record { front = h.part.front ++ h.part.piece; reads = h.part.reads }
+read_to_stop why a b ia ib wa wb (at_last h) = record { front = h.whole.read.front; reads = h.whole.read.reads }
+
+by_count : (why : Stop) (fa fb : FilesTold) (ia ib : SourceTold) (wa wb : SinkTold) → SomeInput ia ib → FailsByCount {X = Unit {0}} wa wb (Err why) → HasCause (outside fa ia wa) (outside fb ib wb) (status_by (Err why))
+by_count stop.WriteFault fa fb ia ib wa wb read rose = (rose, read)
+by_count stop.NoMemory fa fb ia ib wa wb read rose = read
+
+-- nothing was read
+pub cause_unread : (why : Stop) (fa fb : FilesTold) (ia : SourceTold) (wa wb : SinkTold) → FailsByCount {X = Unit {0}} wa wb (Err why) → HasCause (outside fa ia wa) (outside fb ia wb) (status_by (Err why))
+cause_unread why fa fb ia wa wb rose = by_count why fa fb ia ia wa wb (nothing_read ia) rose
+
+-- the run stopped within the input
+pub cause_stopped : (why : Stop) (a b : Session) (fa fb : FilesTold) (ia ib : SourceTold) (wa wb wc : SinkTold) → wa.faults ≤ wb.faults → FailsByCount {X = Unit {0}} wb wc (Err why) → EndsInput a b ia ib wb wc (Err why) → HasCause (outside fa ia wa) (outside fb ib wc) (status_by (Err why))
+cause_stopped why a b fa fb ia ib wa wb wc later rose ends = by_count why fa fb ia ib wa wc (read_to_stop why a b ia ib wb wc ends) (fails_later {X = Unit {0}} wa wb wc (Err why) later rose)
+
+-- the run came to an end of the input
+pub cause_ended : (end : Ending) (any : Bool) (a b : Session) (fa fb : FilesTold) (ia ib : SourceTold) (wa wb wc : SinkTold) → EndsInput a b ia ib wb wc (Ok end) → HasCause (outside fa ia wa) (outside fb ib wc) (status_at end any)
+cause_ended ending.AtEnd true a b fa fb ia ib wa wb wc h = h.whole
+cause_ended ending.AtEnd false a b fa fb ia ib wa wb wc h = h.whole
+cause_ended ending.ReadFault any a b fa fb ia ib wa wb wc h = h.part
+cause_ended ending.TooMuch any a b fa fb ia ib wa wb wc h = h.part
 
 -- a run that began has another status than `Words`
 pub status_at_is_read : (end : Ending) (any : Bool) → status_at end any ≡ Words → ⊥

@@ -84,16 +84,6 @@ load_with None = None_of_these
 load_with (Some options) =
     if nat_le (length options.0) 32 && are_different options.0 then Load options.0 options.1 else None_of_these
 
--- a load of this file with one definition, where there is one
-abbrev pub load_with_one : Option Define → List ℕ → Command
-load_with_one None file = None_of_these
-load_with_one (Some define) file = Load (define ∷ []) file
-
--- a load of this file, with the definition of this word where one is given
-abbrev pub command_with : Option (List ℕ) → List ℕ → Command
-command_with None file = Load [] file
-command_with (Some word) file = load_with_one (define_of word) file
-
 abbrev pub load_of : List (List ℕ) → Command
 load_of words = load_with (options_of words)
 

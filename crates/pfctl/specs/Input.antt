@@ -1,10 +1,12 @@
 -- The input: its lines, and what was read of it.
-use Rattle.std.specs.Prelude.{◌≡◌, ℕ, ◌+◌, Bool, false, not, ◌==◌, List, [], ◌∷◌, ◌++◌, ◌≤◌, length, take, map, codes}
-use Rattle.std.proofs.Common.{◌⊎◌}
+use Rattle.std.specs.Prelude.{◌≡◌, ℕ, ◌+◌, ◌-◌, ◌^◌, ◌<◌, ◌≤◌, min, Bool, false, not, ◌==◌, List, [], ◌∷◌, ◌++◌, length, take, map, codes}
 use Rattle.std.specs.List.{filter}
 use Rattle.std.specs.Io.KnownBytes.{Consumes, IsAtEnd}
-use Rattle.pf_base.specs.Text.{whole_lines, lines_of}
+use Rattle.pf_base.specs.Text.{line_of_rest, unfinished, whole_lines}
+use Rattle.pf_source.specs.Causes.{Rose}
+use Rattle.pf_source.specs.Streams.{gave_piece}
 use Rattle.pf_source.specs.Told.{SourceTold}
+use Rattle.pf_source.specs.declared.source.LastRead.{LastRead}
 
 abbrev pub test_line : List ℕ → List ℕ
 test_line record_text = codes "test " ++ record_text
@@ -27,12 +29,50 @@ pub record Reads (old new : SourceTold) (front : List ℕ) : Type 0 where
   pub consumed : Consumes old.left new.left front
   pub given : new.given ≡ old.given + length front
 
--- the input was read to its end within its limit, and these are all its lines
-pub record AreAll (new : SourceTold) (front : List ℕ) (lines : List (List ℕ)) : Type 0 where
-  pub ended : IsAtEnd new.left
-  pub within : length front ≤ most_input
-  pub all : lines ≡ lines_of front
+-- how many reads were made since the last piece, where these bytes were read and nothing was tried behind them
+abbrev pub reads_since : LastRead → List ℕ → ℕ
+reads_since last [] = last.since
+reads_since last (byte ∷ front) = 0
 
--- the lines that end within the limit in what was read, or at the end of the input all of them
-abbrev pub LinesRead : SourceTold → List ℕ → List (List ℕ) → Type 0
-LinesRead new front lines = (lines ≡ whole_lines (take most_input front)) ⊎ AreAll new front lines
+-- Bytes were read, and then one read more was made, which gave none.
+pub record ReadsToLast (old new : SourceTold) : Type 0 where
+  pub front : List ℕ
+  pub reads : Reads old new front
+  pub since : new.last.since ≡ min (reads_since old.last front + 1) (2 ^ 64 - 1)
+  pub within : length front ≤ most_input
+
+-- The whole input was read, within its limit, up to the read that met its end.
+pub record WholeInput (old new : SourceTold) : Type 0 where
+  pub read : ReadsToLast old new
+  pub ended : IsAtEnd new.left
+
+-- The input was read up to a read that failed.
+pub record InputToFault (old new : SourceTold) : Type 0 where
+  pub read : ReadsToLast old new
+  pub failed : Rose old.faults new.faults
+
+-- The input was read up to a piece, which the last read gave; the bytes before it are within the limit.
+pub record InputToPiece (old new : SourceTold) : Type 0 where
+  pub front : List ℕ
+  pub piece : List ℕ
+  pub reads : Reads old new (front ++ piece)
+  pub last : new.last ≡ gave_piece (length piece)
+  pub within : length front ≤ most_input
+
+-- That piece goes past the limit.
+pub record InputPastLimit (old new : SourceTold) : Type 0 where
+  pub read : InputToPiece old new
+  pub beyond : most_input < length (read.front ++ read.piece)
+
+-- some front of the input was read
+pub record SomeInput (old new : SourceTold) : Type 0 where
+  pub front : List ℕ
+  pub reads : Reads old new front
+
+-- the lines that end in a piece, behind what was read before it and within the limit
+abbrev pub lines_ending_in : List ℕ → List ℕ → List (List ℕ)
+lines_ending_in front piece = whole_lines (unfinished front ++ take (most_input - length front) piece)
+
+-- the last line, which the end of the input ends: what stands behind the last newline, if anything does
+abbrev pub last_line : List ℕ → List (List ℕ)
+last_line front = line_of_rest (unfinished front)

@@ -1,20 +1,18 @@
 -- The program: its words, the lines that it executes, and what each of its ends means.
-use Rattle.std.specs.Prelude.{◌≡◌, ℕ, ◌+◌, ◌<◌, ◌≤◌, Bool, true, false, not, ◌&&◌, List, [], ◌∷◌, ◌++◌, length, take, Option, Some, None, codes, nat_le, Result, Ok, Err, if◌then◌else◌}
+use Rattle.std.specs.Prelude.{◌≡◌, ℕ, Bool, true, false, not, ◌&&◌, List, [], ◌∷◌, ◌++◌, take, Option, Some, None, codes, nat_le, if◌then◌else◌}
 use Rattle.std.specs.List.{list_all}
 use Rattle.std.specs.Str.{bytes_eq}
-use Rattle.std.specs.Io.KnownBytes.{IsAtEnd}
+use Rattle.std.specs.declared.io.ErrorKind.{ErrorKind}
+use Rattle.std.specs.declared.io.ErrorKind.TheVariants as error
 use Rattle.pf_base.specs.Text.{is_nothing, whole_lines, lines_of}
 use Rattle.pf_source.specs.Causes.{Rose}
+use Rattle.pf_source.specs.Disk.{Disk}
 use Rattle.pf_source.specs.Told.{FilesTold, SourceTold, SinkTold}
-use Rattle.pf_runs.specs.Runs.{Disk, World, Executes, Stops, Cause, Write_failed, Out_of_memory}
+use Rattle.pf_runs.specs.Runs.{World, Executes, Stops, Cause, Write_failed, Out_of_memory}
 use Rattle.pfctl.specs.declared.program.Status.{Status}
 use Rattle.pfctl.specs.declared.program.Status.TheVariants as status
-use Rattle.pfctl.specs.declared.session.Ending.{Ending}
-use Rattle.pfctl.specs.declared.session.Ending.TheVariants as ending
-use Rattle.pfctl.specs.declared.session.Stop.{Stop}
-use Rattle.pfctl.specs.declared.session.Stop.TheVariants as stop
 use Rattle.pfctl.specs.Command.{begins_with_dash}
-use Rattle.pfctl.specs.Input.{LinesRead, Reads, most_input, test_lines}
+use Rattle.pfctl.specs.Input.{InputPastLimit, InputToFault, InputToPiece, SomeInput, WholeInput, last_line, lines_ending_in, most_input, test_lines}
 use Rattle.pfctl.specs.Machine.{Machine, empty_machine}
 use Rattle.pfctl.specs.Step.{step}
 
@@ -85,43 +83,51 @@ pub record Ran (disk : Disk) (lines : List (List ℕ)) (any_refused : Bool) (bef
   pub machine : Machine
   pub executes : Executes step disk lines (opening before) (closing machine any_refused after)
 
--- A front of these lines was executed, and then the run stopped.
-pub record Stopped (disk : Disk) (cause : Cause) (lines : List (List ℕ)) (before after : Outside) : Type 0 where
+-- These lines were executed, each to its end, and then the run stopped at one of the next ones.
+pub record Stopped (disk : Disk) (cause : Cause) (lines next : List (List ℕ)) (before after : Outside) : Type 0 where
+  pub mid : World Machine
+  pub executes : Executes step disk lines (opening before) mid
   pub machine : Machine
   pub any_refused : Bool
-  pub stops : Stops step disk cause lines (opening before) (closing machine any_refused after)
+  pub stops : Stops step disk cause next mid (closing machine any_refused after)
 
 -- The input was read to its end, within its limit, and every line of it was executed.
 pub record Finished (words : ProgramWords) (disk : Disk) (any_refused : Bool) (before after : Outside) : Type 0 where
-  pub front : List ℕ
-  pub reads : Reads before.source after.source front
-  pub ended : IsAtEnd after.source.left
-  pub within : length front ≤ most_input
-  pub ran : Ran disk (program_lines words (lines_of front)) any_refused before after
+  pub input : WholeInput before.source after.source
+  pub ran : Ran disk (program_lines words (lines_of input.read.front)) any_refused before after
 
--- A read failed: the whole lines read before it were executed.
+-- A read failed, and is the last one: the whole lines read before it were executed.
 pub record ReadFailed (words : ProgramWords) (disk : Disk) (before after : Outside) : Type 0 where
-  pub front : List ℕ
-  pub reads : Reads before.source after.source front
-  pub within : length front ≤ most_input
+  pub input : InputToFault before.source after.source
   pub any_refused : Bool
-  pub ran : Ran disk (program_lines words (whole_lines front)) any_refused before after
+  pub ran : Ran disk (program_lines words (whole_lines input.read.front)) any_refused before after
 
--- More was read than the limit: the lines that end within the limit were executed.
+-- More was read than the limit, in the last read: the lines that end within the limit were executed.
 pub record ReadTooMuch (words : ProgramWords) (disk : Disk) (before after : Outside) : Type 0 where
-  pub front : List ℕ
-  pub reads : Reads before.source after.source front
-  pub over : most_input < length front
+  pub input : InputPastLimit before.source after.source
   pub any_refused : Bool
-  pub ran : Ran disk (program_lines words (whole_lines (take most_input front))) any_refused before after
+  pub ran : Ran disk (program_lines words (whole_lines (take most_input (input.read.front ++ input.read.piece)))) any_refused before after
 
--- The run stopped before its end, at a failed write or for want of memory.
-pub record Broke (words : ProgramWords) (disk : Disk) (cause : Cause) (before after : Outside) : Type 0 where
-  pub front : List ℕ
-  pub reads : Reads before.source after.source front
-  pub lines : List (List ℕ)
-  pub are : LinesRead after.source front lines
-  pub stopped : Stopped disk cause (program_lines words lines) before after
+-- The run stopped at its load, before the input was read.
+pub record BrokeAtLoad (words : ProgramWords) (disk : Disk) (cause : Cause) (before after : Outside) : Type 0 where
+  pub unread : after.source ≡ before.source
+  pub stopped : Stopped disk cause [] (load_line words.define words.file ∷ []) before after
+
+-- The run stopped at a line that ends in the piece read last: all lines that were whole before that piece were executed.
+pub record BrokeInPiece (words : ProgramWords) (disk : Disk) (cause : Cause) (before after : Outside) : Type 0 where
+  pub input : InputToPiece before.source after.source
+  pub stopped : Stopped disk cause (program_lines words (whole_lines input.front)) (test_lines (lines_ending_in input.front input.piece)) before after
+
+-- The run stopped at the last line, which has no newline, when the whole input was read: all lines before it were executed.
+pub record BrokeAtLastLine (words : ProgramWords) (disk : Disk) (cause : Cause) (before after : Outside) : Type 0 where
+  pub input : WholeInput before.source after.source
+  pub stopped : Stopped disk cause (program_lines words (whole_lines input.read.front)) (test_lines (last_line input.read.front)) before after
+
+-- The run stopped before its end, at a failed write or for want of memory, and nothing more was read.
+pub data Broke (words : ProgramWords) (disk : Disk) (cause : Cause) (before after : Outside) : Type 0 where
+  at_load : BrokeAtLoad words disk cause before after → Broke words disk cause before after
+  in_piece : BrokeInPiece words disk cause before after → Broke words disk cause before after
+  at_last_line : BrokeAtLastLine words disk cause before after → Broke words disk cause before after
 
 -- what each status means
 abbrev pub Means : ProgramWords → Disk → Outside → Outside → Status → Type 0
@@ -133,28 +139,20 @@ Means words disk before after status.WriteFault = Broke words disk Write_failed 
 Means words disk before after status.NoMemory = Broke words disk Out_of_memory before after
 Means words disk before after status.TooMuchInput = ReadTooMuch words disk before after
 
--- why a status comes, by counts and numbers alone
+-- why a status comes, whatever the files tell
 abbrev pub HasCause : Outside → Outside → Status → Type 0
-HasCause before after status.Done = IsAtEnd after.source.left × (after.source.given ≤ before.source.given + most_input)
-HasCause before after status.Refused = IsAtEnd after.source.left × (after.source.given ≤ before.source.given + most_input)
+HasCause before after status.Done = WholeInput before.source after.source
+HasCause before after status.Refused = WholeInput before.source after.source
 HasCause before after status.Words = after ≡ before
-HasCause before after status.ReadFault = Rose before.source.faults after.source.faults × (after.source.given ≤ before.source.given + most_input)
-HasCause before after status.WriteFault = Rose before.sink.faults after.sink.faults
-HasCause before after status.NoMemory = Unit {0}
-HasCause before after status.TooMuchInput = before.source.given + most_input < after.source.given
+HasCause before after status.ReadFault = InputToFault before.source after.source
+HasCause before after status.WriteFault = Rose before.sink.faults after.sink.faults × SomeInput before.source after.source
+HasCause before after status.NoMemory = SomeInput before.source after.source
+HasCause before after status.TooMuchInput = InputPastLimit before.source after.source
 
--- the status where the input came to its end, at a read that failed, or past the limit
-abbrev pub status_at : Ending → Bool → Status
-status_at ending.AtEnd true = status.Refused
-status_at ending.AtEnd false = status.Done
-status_at ending.ReadFault refused = status.ReadFault
-status_at ending.TooMuch refused = status.TooMuchInput
-
--- the status of a run, which may stop before its end
-abbrev pub status_by : Result Status Stop → Status
-status_by (Ok result) = result
-status_by (Err stop.WriteFault) = status.WriteFault
-status_by (Err stop.NoMemory) = status.NoMemory
+-- the status where the words can't be had from the runtime: without memory, or because one is no text
+abbrev pub unread_words : ErrorKind → Status
+unread_words error.OutOfMemory = status.NoMemory
+unread_words kind = status.Words
 
 -- the exit status of the process
 abbrev pub exit_number : Status → ℕ

@@ -8,7 +8,8 @@ use Rattle.pf_record.specs.Record.{IsReadAs}
 use Rattle.pf_record.specs.declared.field.PacketFault.{PacketFault}
 use Rattle.pf_load.specs.Load.{Loads, Outcome}
 use Rattle.pf_load.specs.declared.loading.LoadFault.TheVariants.{File, CannotRead, NoMemory}
-use Rattle.pf_runs.specs.Runs.{Disk, Step, Stepped}
+use Rattle.pf_source.specs.Disk.{Disk}
+use Rattle.pf_runs.specs.Runs.{Step, Stepped}
 use Rattle.pfctl.specs.Command.{Command, Load, Test, None_of_these, command_of}
 use Rattle.pfctl.specs.Kinds.{kind_text}
 use Rattle.pfctl.specs.Machine.{Machine, no_tables_or_facts}

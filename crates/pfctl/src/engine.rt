@@ -1,11 +1,12 @@
 //! The machine in memory, and its step for each kind of line.
 ghost use Rattle.std.specs.Prelude.{◌≡◌, ◌∷◌, ℕ, List, [], true, false, IfOk, IfSome, OnErr, option_copied};
 ghost use Rattle.std.specs.List.{list_all};
+ghost use Rattle.pf_source.specs.Disk.{Disk};
 ghost use Rattle.pf_source.specs.Told.{Told, file_of};
-ghost use Rattle.pf_runs.specs.Runs.{Answers, Disk, Stepped};
+ghost use Rattle.pf_runs.specs.Runs.{Answers, DoesOneThing, DoesSome, Script};
 ghost use Rattle.pfctl.specs.Machine.{Machine as PlainMachine};
 ghost use Rattle.pfctl.specs.Step.{step};
-ghost use Rattle.pfctl.specs.Command.{Load, Test, behind_blanks, command_of, is_plain};
+ghost use Rattle.pfctl.specs.Command.{Load, Test, behind_blanks, behind_word, command_of, is_plain};
 
 use crate::definition::read_definition;
 use crate::facts::NoFacts;
@@ -13,12 +14,15 @@ use crate::replies::{
     reply_answer, reply_bad_command, reply_bad_packet, reply_cannot_read, reply_load_fault,
     reply_loaded,
 };
-use pf_base::text::is_blank_byte;
+use pf_base::text::{cut_laws, is_blank_byte};
 use pf_base::{List, NoMemory, Steps, Text};
-use pf_load::{LoadFault, a_load_comes_to_one_thing, an_absent_file_is_no_outage, load};
+use pf_load::{
+    LoadFault, a_load_comes_to_one_thing, a_load_comes_to_something, an_absent_file_is_no_outage,
+    load, no_load_comes_to_want_of_memory,
+};
 use pf_record::{a_record_is_read_one_way, read_packet};
 use pf_rule::{NoTables, Rule, evaluate};
-use pf_runs::Machine;
+use pf_runs::{Machine, a_script_has_one_run};
 use pf_source::Files;
 use pf_token::Define;
 use std::alloc::Global;
@@ -95,13 +99,45 @@ impl Machine for Engine {
     ghost step = { step };
 }
 
-/// A law: over the same files a line does one thing, so what is written is determined.
+// The text behind its first word.
+fn skip_word(text: &[u8]) -> &[u8]
+    ensures { result.now ≡ behind_word text.now }
+{
+    let mut rest = text;
+    while let Some((byte, behind)) = rest.split_first() {
+        if is_blank_byte(*byte) {
+            break;
+        }
+        rest = behind;
+    }
+    rest
+}
+
+/// A law: over the same files a line does one thing alone.
 pub fn a_line_does_one_thing()
-    ensures { (disk : Disk) (machine : PlainMachine) (line : List ℕ) (a b : Stepped PlainMachine) →
-        step disk machine line a → step disk machine line b → a ≡ b }
+    ensures { (disk : Disk) → DoesOneThing step disk }
 {
     a_load_comes_to_one_thing();
     a_record_is_read_one_way();
+}
+
+/// A law: over any files and from any machine each line of bytes does something. A record is read as `read_packet`
+/// reads it, so this law runs it on the line's.
+pub fn a_line_does_something(line: &[u8])
+    ensures { (disk : Disk) (machine : PlainMachine) → DoesSome step disk machine line.now }
+{
+    a_load_comes_to_something();
+    no_load_comes_to_want_of_memory();
+    let _read = read_packet(skip_blanks(skip_word(skip_blanks(line))));
+}
+
+/// A law: over the same files the lines of a script have one run without outages at most, so the machine behind it, and
+/// what is written, are determined.
+pub fn a_script_writes_one_thing()
+    ensures { (disk : Disk) (machine : PlainMachine) (lines : List (List ℕ)) (a b : Script step disk machine lines) → a.events ≡ b.events }
+{
+    a_line_does_one_thing();
+    a_script_has_one_run::<Engine>();
 }
 
 impl Engine {
@@ -170,6 +206,7 @@ impl Engine {
         ensures unchanged { OnErr result (self.new ≡ self.old) }
         ensures refused { result ≡ Ok Outcome.Refused → self.new ≡ self.old }
     {
+        cut_laws();
         let Some(word) = define else {
             return self.load_with(alloc, files, &[], file, reply);
         };

@@ -3,6 +3,10 @@
 //! files, input and output, and hands on the status.
 #![tactic(auto)]
 
+ghost use Rattle.std.specs.Prelude.{◌≡◌};
+ghost use Rattle.std.specs.IoError.{error_kind};
+ghost use Rattle.pfctl.specs.Program.{unread_words};
+
 mod definition;
 mod engine;
 mod facts;
@@ -31,7 +35,10 @@ fn words_of(rt: &HostRuntime) -> Result<Vec<String>, Status> {
     Ok(words)
 }
 
-fn status_of(error: io::Error) -> Status {
+// The status where the words can't be had.
+fn status_of(error: io::Error) -> Status
+    ensures { result ≡ unread_words (error_kind error) }
+{
     match error.kind() {
         io::ErrorKind::OutOfMemory => Status::NoMemory,
         _ => Status::Words,

@@ -2,7 +2,8 @@
 ghost use Rattle.std.specs.Prelude.{[], ◌∷◌, ◌≡◌, ◌≢◌, ◌↔◌, true, map, string_bytes, IfSome, IfNone, IsNone, None, Some, option_copied};
 ghost use Rattle.std.specs.List.{list_all};
 ghost use Rattle.pf_source.specs.Told.{Told, file_of};
-ghost use Rattle.pfctl.specs.Program.{HasCause, Means, gives_define, is_file_word, is_visible, is_word, names_file, outside, status_at, status_by, words_read, words_with};
+ghost use Rattle.pfctl.specs.Doing.{status_at, status_by};
+ghost use Rattle.pfctl.specs.Program.{HasCause, Means, gives_define, is_file_word, is_visible, is_word, names_file, outside, words_read, words_with};
 
 use crate::session::{Ending, Session, Stop};
 use pf_base::List;
@@ -158,7 +159,7 @@ pub fn run<F: Files, S: Source, W: Sink>(
         (outside (F.tells files.new) (S.tells input.new) (W.tells out.new)) result)) }
     // The words alone decide whether they are read; where they aren't, nothing is read or written.
     ensures words { (result ≡ Status.Words) ↔ IsNone (words_read (map string_bytes words.now)) }
-    // Why a status comes, also where nothing is told.
+    // Why a status comes, whatever the files tell: what was read of the input, and which count rose.
     ensures cause { HasCause
         (outside (F.tells files.old) (S.tells input.old) (W.tells out.old))
         (outside (F.tells files.new) (S.tells input.new) (W.tells out.new)) result }
@@ -187,6 +188,9 @@ pub fn run_surely(
         (outside (⟦<SureFiles as Files>⟧.tells files.old) (⟦<SureSource as Source>⟧.tells input.old) (⟦<SureSink as Sink>⟧.tells out.old))
         (outside (⟦<SureFiles as Files>⟧.tells files.new) (⟦<SureSource as Source>⟧.tells input.new) (⟦<SureSink as Sink>⟧.tells out.new)) result)) }
     ensures words { (result ≡ Status.Words) ↔ IsNone (words_read (map string_bytes words.now)) }
+    ensures cause { HasCause
+        (outside (⟦<SureFiles as Files>⟧.tells files.old) (⟦<SureSource as Source>⟧.tells input.old) (⟦<SureSink as Sink>⟧.tells out.old))
+        (outside (⟦<SureFiles as Files>⟧.tells files.new) (⟦<SureSource as Source>⟧.tells input.new) (⟦<SureSink as Sink>⟧.tells out.new)) result }
     ensures reads { result ≢ Status.ReadFault }
     ensures writes { result ≢ Status.WriteFault }
 {

@@ -1,16 +1,17 @@
 //! A run: the machine, the lines that it has executed, and what it has written.
 ghost use Rattle.std.specs.Prelude.{◌≡◌, ◌∷◌, ◌++◌, [], true, false, OnOk, IfErr, IfSome, option_copied};
 ghost use Rattle.pf_base.specs.Text.{IsOneLine, whole_lines, unfinished};
+ghost use Rattle.pf_source.specs.Causes.{CountsOn};
+ghost use Rattle.pf_source.specs.Disk.{Disk};
 ghost use Rattle.pf_source.specs.Told.{FilesTold, Told, file_of};
-ghost use Rattle.pf_runs.specs.Runs.{Disk};
 ghost use Rattle.pfctl.specs.declared.session.Stop.TheVariants.{NoMemory as stop_no_memory};
-ghost use Rattle.pfctl.specs.Doing.{EndsInput, FailsByCount, GivesWithin, Performs, RunsOver, Sends, StopsOver, world};
+ghost use Rattle.pfctl.specs.Doing.{EndsInput, FailsByCount, Performs, RunsOver, Sends, StopsOver, world};
 ghost use Rattle.pfctl.specs.Machine.{empty_machine};
 ghost use Rattle.pfctl.specs.Input.{says_something, test_lines};
 ghost use Rattle.pfctl.specs.Program.{is_file_word, is_word, load_line};
 
 use crate::engine::Engine;
-use pf_base::text::split_line;
+use pf_base::text::{lines_go_on, split_line};
 use pf_base::{NoMemory, Text};
 use pf_source::{Files, Sink, SinkFault, Source};
 use std::alloc::{AllocError, Global};
@@ -65,9 +66,10 @@ pub struct Session {
     reply: Vec<u8>,
 }
 
-// Writes a reply whole.
+// Writes a reply, in one write.
 fn send<W: Sink>(out: &mut W, reply: &[u8]) -> Result<(), Stop>
     ensures sends { Sends (W.tells out.old) (W.tells out.new) reply.now result }
+    ensures once { CountsOn 1 (W.tells out.old).calls (W.tells out.new).calls }
     ensures causes { FailsByCount (W.tells out.old) (W.tells out.new) result }
 {
     match out.write(reply) {
@@ -173,8 +175,8 @@ impl Session {
     ) -> Result<Ending, Stop>
         ensures ends { EndsInput self.old self.new (S.tells input.old) (S.tells input.new) (W.tells out.old) (W.tells out.new) result }
         ensures causes { FailsByCount (W.tells out.old) (W.tells out.new) result }
-        ensures given { GivesWithin (S.tells input.old).given (S.tells input.new).given result }
     {
+        lines_go_on();
         let mut chunk = [0u8; CHUNK];
         let mut kept = Vec::new(alloc);
         let mut allowed = MOST_INPUT;

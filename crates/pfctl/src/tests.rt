@@ -32,6 +32,9 @@ fn held(alloc: Global, name: &str, bytes: &str) -> Result<Vec<HeldFile>, AllocEr
     Ok(files)
 }
 
+// What `x.inc` holds beside `f.conf`: its second line has a string without an end.
+const INCLUDED: &str = "pass\npass label \"abc";
+
 // A run of these words over sure objects: the file `f.conf`, the input, the output and the status.
 fn check(
     rt: &impl Abort,
@@ -43,7 +46,12 @@ fn check(
     status: Status,
 ) -> Result<(), AllocError> {
     let words = words(alloc, given)?;
-    let mut files = SureFiles::new(held(alloc, "f.conf", conf)?);
+    let mut content = held(alloc, "f.conf", conf)?;
+    content.push(HeldFile {
+        name: text(alloc, "x.inc")?,
+        bytes: text(alloc, INCLUDED)?,
+    })?;
+    let mut files = SureFiles::new(content);
     let mut source = SureSource::new(text(alloc, input)?);
     let mut sink = SureSink::new(alloc);
     let got = run_surely(alloc, words.as_slice(), &mut files, &mut source, &mut sink);
@@ -64,21 +72,46 @@ fn answers(rt: HostRuntime) -> Result<(), Fail> {
             Status::Done,
         ),
         (
+            CONF,
+            "in em0 17 10.0.0.1 192.0.2.10 sport=1024 dport=53\nout em0 17 10.0.0.1 192.0.2.10 sport=1024 dport=53\nup em0 17\n",
+            "ok load rulesets=1 rules=3 tables=0\npass keep state\nblock drop\nrefused 11 BadPacket direction\n",
+            Status::Refused,
+        ),
+        (
             "",
-            "in em0 17 10.0.0.1 192.0.2.10 sport=1024 dport=53\n",
+            "in em0 udp 10.0.0.1 192.0.2.10 sport=1024 dport=53",
             "ok load rulesets=1 rules=0 tables=0\npass no state\n",
             Status::Done,
+        ),
+        (
+            "",
+            "in em0 tcp 10.0.0.1 10.0.0.2 sport=1\n",
+            "ok load rulesets=1 rules=0 tables=0\nrefused 11 BadPacket dport\n",
+            Status::Refused,
+        ),
+        // The first fault is told with its file, and the records are answered by the empty machine.
+        (
+            "include \"x.inc\"\n",
+            "in em0 udp 10.0.0.1 192.0.2.10 sport=1024 dport=53\n",
+            "refused 2 LoadFault Unterminated x.inc:2\npass no state\n",
+            Status::Refused,
+        ),
+        (
+            "include \"f.conf\"\n",
+            "",
+            "refused 2 LoadFault IncludeDepth f.conf:1\n",
+            Status::Refused,
+        ),
+        (
+            "pass proto $nope\n",
+            "",
+            "refused 2 LoadFault MacroUndefined(nope) f.conf:1\n",
+            Status::Refused,
         ),
         (
             "pass\npass sideways\n",
             "in em0 17 10.0.0.1 192.0.2.10 sport=1024 dport=53\n",
             "refused 2 LoadFault Syntax f.conf:2\npass no state\n",
-            Status::Refused,
-        ),
-        (
-            "pass\npass $p\n",
-            "",
-            "refused 2 LoadFault MacroUndefined(p) f.conf:2\n",
             Status::Refused,
         ),
         // Empty lines and lines that begin with # have no reply, and what follows them is read.
@@ -207,6 +240,7 @@ fn check_failing(
     rt: &impl Abort,
     alloc: Global,
     name: &str,
+    conf: &str,
     fail_file: u64,
     fail_read: u64,
     fail_write: FailedWrite,
@@ -214,7 +248,7 @@ fn check_failing(
     status: Status,
 ) -> Result<(), AllocError> {
     let words = words(alloc, &["-f", "f.conf"])?;
-    let mut files = MemoryFiles::new(alloc, held(alloc, name, CONF)?, vec![in alloc; fail_file]?);
+    let mut files = MemoryFiles::new(alloc, held(alloc, name, conf)?, vec![in alloc; fail_file]?);
     let mut source = MemorySource::new(
         text(
             alloc,
@@ -240,13 +274,14 @@ fn failing_calls(rt: HostRuntime) -> Result<(), Fail> {
     let all = "ok load rulesets=1 rules=3 tables=0\nblock drop\npass keep state\n";
     let absent = "refused 3 CannotRead f.conf\npass no state\npass no state\n";
     let rows = [
-        ("f.conf", 0, 0, never, all, Status::Done),
+        ("f.conf", CONF, 0, 0, never, all, Status::Done),
         // An absent file, and a held one whose read fails.
-        ("gone", 0, 0, never, absent, Status::Refused),
-        ("f.conf", 1, 0, never, absent, Status::Refused),
+        ("gone", CONF, 0, 0, never, absent, Status::Refused),
+        ("f.conf", CONF, 1, 0, never, absent, Status::Refused),
         // The first read of the input fails, and the second, behind a line and a half.
         (
             "f.conf",
+            CONF,
             0,
             1,
             never,
@@ -255,6 +290,7 @@ fn failing_calls(rt: HostRuntime) -> Result<(), Fail> {
         ),
         (
             "f.conf",
+            CONF,
             0,
             2,
             never,
@@ -264,6 +300,7 @@ fn failing_calls(rt: HostRuntime) -> Result<(), Fail> {
         // A write fails, and takes a front of its reply.
         (
             "f.conf",
+            CONF,
             0,
             0,
             FailedWrite { call: 1, taken: 0 },
@@ -272,6 +309,7 @@ fn failing_calls(rt: HostRuntime) -> Result<(), Fail> {
         ),
         (
             "f.conf",
+            CONF,
             0,
             0,
             FailedWrite { call: 2, taken: 3 },
@@ -280,32 +318,46 @@ fn failing_calls(rt: HostRuntime) -> Result<(), Fail> {
         ),
         (
             "f.conf",
+            CONF,
             0,
             0,
             FailedWrite { call: 3, taken: 99 },
             all,
             Status::WriteFault,
         ),
+        // The second write takes three bytes of the answer by no rules.
+        (
+            "f.conf",
+            "",
+            0,
+            0,
+            FailedWrite { call: 2, taken: 3 },
+            "ok load rulesets=1 rules=0 tables=0\npas",
+            Status::WriteFault,
+        ),
     ];
-    for (name, file, read, write, want, status) in rows {
-        check_failing(&rt, alloc, name, file, read, write, want, status)?;
+    for (name, conf, file, read, write, want, status) in rows {
+        check_failing(&rt, alloc, name, conf, file, read, write, want, status)?;
     }
     Ok(())
 }
 
-// A run over an empty file and an input that is one long comment.
-fn comment(alloc: Global, count: usize) -> Result<Status, AllocError> {
+// A run over an empty file and an input that is this byte so many times.
+fn repeated(alloc: Global, byte: u8, count: usize) -> Result<Status, AllocError> {
     let words = words(alloc, &["-f", "f.conf"])?;
     let mut files = SureFiles::new(Vec::new(alloc));
-    let mut source = SureSource::new(List::of(vec![in alloc; b'#'; count]?));
+    let mut source = SureSource::new(List::of(vec![in alloc; byte; count]?));
     let mut sink = SureSink::new(alloc);
     Ok(run(alloc, words.as_slice(), &mut files, &mut source, &mut sink))
 }
 
 #[test]
 fn much_input(rt: HostRuntime) -> Result<(), Fail> {
-    assert_eq!(rt; comment(rt.alloc(), 67_108_864)?, Status::Done);
-    assert_eq!(rt; comment(rt.alloc(), 67_108_865)?, Status::TooMuchInput);
+    assert_eq!(rt; repeated(rt.alloc(), b'#', 67_108_864)?, Status::Done);
+    assert_eq!(rt;
+        repeated(rt.alloc(), b'\n', 67_108_865)?,
+        Status::TooMuchInput
+    );
     Ok(())
 }
 
@@ -331,20 +383,21 @@ fn large_files(rt: HostRuntime) -> Result<(), Fail> {
     Ok(())
 }
 
-// A source that gives one byte at a time.
+// A source that gives a few bytes at a time, and counts its reads.
 #[derive(Drop)]
 struct Dribble {
     inner: MemorySource,
+    most: usize,
+    reads: u64,
 }
 
 impl Source for Dribble {
     ghost tells = { λ source. ⟦<MemorySource as Source>⟧.tells source.inner };
 
     fn read(&mut self, buf: &mut [u8]) -> Result<usize, Failed> {
-        if buf.is_empty() {
-            return self.inner.read(buf);
-        }
-        self.inner.read(&mut buf[..1])
+        self.reads = self.reads.saturating_add(1);
+        let most = self.most.max(1).min(buf.len());
+        self.inner.read(&mut buf[..most])
     }
 }
 
@@ -357,6 +410,8 @@ fn one_byte_at_a_time(rt: HostRuntime) -> Result<(), Fail> {
         "out em0 47 10.0.0.1 192.0.2.10\n\n# x\nin em0 17 10.0.0.1 192.0.2.10 sport=1024 dport=53";
     let mut source = Dribble {
         inner: MemorySource::new(text(alloc, input)?, Vec::new(alloc)),
+        most: 1,
+        reads: 0,
     };
     let mut sink = SureSink::new(alloc);
     let got = run(alloc, words.as_slice(), &mut files, &mut source, &mut sink);
@@ -377,20 +432,28 @@ const REPLIES: [&str; 5] = [
     "refused 11 BadPacket direction\n",
 ];
 
-// What that run writes, with its status, where one read of one byte and one write fail.
+// What that run writes, its status and the number of its reads, where each read gives at most so many bytes, and one
+// read and one write fail.
 fn write_of(
     alloc: Global,
+    most: usize,
     fail_read: u64,
     fail_write: FailedWrite,
-) -> Result<(Vec<u8>, Status), AllocError> {
+) -> Result<(Vec<u8>, Status, u64), AllocError> {
     let words = words(alloc, &["-f", "f.conf"])?;
     let mut files = SureFiles::new(held(alloc, "f.conf", CONF)?);
     let mut source = Dribble {
         inner: MemorySource::new(text(alloc, "x\ny\nz\nw")?, vec![in alloc; fail_read]?),
+        most,
+        reads: 0,
     };
     let mut sink = MemorySink::new(alloc, vec![in alloc; fail_write]?);
     let status = run(alloc, words.as_slice(), &mut files, &mut source, &mut sink);
-    Ok((Vec::from_slice(alloc, sink.written())?, status))
+    Ok((
+        Vec::from_slice(alloc, sink.written())?,
+        status,
+        source.reads,
+    ))
 }
 
 // The first replies, and so many bytes of the next one at most.
@@ -409,43 +472,54 @@ fn front(alloc: Global, whole: usize, taken: usize) -> Result<Vec<u8>, AllocErro
 
 const NEVER: FailedWrite = FailedWrite { call: 0, taken: 0 };
 
-// Each read fails in turn: what is written is the output of the lines that were whole before.
+// Each read fails in turn, and is the last one: what is written is the output of the lines that were whole before.
 #[test]
 fn each_read_fails(rt: HostRuntime) -> Result<(), Fail> {
     let alloc = rt.alloc();
-    for (read, replies, status) in [
-        (0u64, 5usize, Status::Refused),
-        (1, 1, Status::ReadFault),
-        (2, 1, Status::ReadFault),
-        (3, 2, Status::ReadFault),
-        (4, 2, Status::ReadFault),
-        (5, 3, Status::ReadFault),
-        (6, 3, Status::ReadFault),
-        (7, 4, Status::ReadFault),
-        (8, 4, Status::ReadFault),
+    for (read, reads, replies, status) in [
+        (0u64, 8u64, 5usize, Status::Refused),
+        (1, 1, 1, Status::ReadFault),
+        (2, 2, 1, Status::ReadFault),
+        (3, 3, 2, Status::ReadFault),
+        (4, 4, 2, Status::ReadFault),
+        (5, 5, 3, Status::ReadFault),
+        (6, 6, 3, Status::ReadFault),
+        (7, 7, 4, Status::ReadFault),
+        (8, 8, 4, Status::ReadFault),
     ] {
-        let (written, got) = write_of(alloc, read, NEVER)?;
+        let (written, got, made) = write_of(alloc, 1, read, NEVER)?;
         assert_eq!(rt; got, status, "{read}");
+        assert_eq!(rt; made, reads, "{read}");
         let wanted = front(alloc, replies, 0)?;
         assert_eq!(rt; written.as_slice(), wanted.as_slice(), "{read}");
     }
     Ok(())
 }
 
-// Each write fails in turn, and takes some bytes: the replies before stand whole.
+// Each write fails in turn, and takes some bytes: the replies before stand whole, and nothing is read after it. The
+// reads give one byte, or four, and so two whole lines and then one and a half.
 #[test]
 fn each_write_fails(rt: HostRuntime) -> Result<(), Fail> {
     let alloc = rt.alloc();
-    for before in 0..5usize {
-        for taken in [0usize, 1, 2, 3, 99] {
-            let fail = FailedWrite {
-                call: before as u64 + 1,
-                taken: taken as u64,
-            };
-            let (written, status) = write_of(alloc, 0, fail)?;
-            assert_eq!(rt; status, Status::WriteFault, "{before} {taken}");
-            let wanted = front(alloc, before, taken)?;
-            assert_eq!(rt; written.as_slice(), wanted.as_slice(), "{before} {taken}");
+    for (before, singly, by_four) in [
+        (0usize, 0u64, 0u64),
+        (1, 2, 1),
+        (2, 4, 1),
+        (3, 6, 2),
+        (4, 8, 3),
+    ] {
+        for (most, reads) in [(1usize, singly), (4, by_four)] {
+            for taken in [0usize, 3, 99] {
+                let fail = FailedWrite {
+                    call: before as u64 + 1,
+                    taken: taken as u64,
+                };
+                let (written, status, made) = write_of(alloc, most, 0, fail)?;
+                assert_eq!(rt; status, Status::WriteFault, "{before} {taken}");
+                assert_eq!(rt; made, reads, "{before} {taken}");
+                let wanted = front(alloc, before, taken)?;
+                assert_eq!(rt; written.as_slice(), wanted.as_slice(), "{before} {taken}");
+            }
         }
     }
     Ok(())

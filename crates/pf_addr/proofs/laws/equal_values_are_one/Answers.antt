@@ -1,7 +1,7 @@
 use Rattle.pf_addr.specs.AddrOrder.{addr_cmp-total, addrs}
 use Rattle.pf_addr.specs.PrefixOrder.{prefix_cmp-total, prefixes}
 use Rattle.pf_addr.specs.RangeOrder.{ranges}
-use Rattle.pf_addr.proofs.Equal.{addrs_level, families_by_width, prefixes_level}
+use Rattle.pf_addr.specs.EqualLaws.{addrs_level, families_by_width, prefixes_level}
 use Rattle.pf_addr.proofs.laws.equal_values_are_one.Goals as goal
 
 pub returns : goal.returns

@@ -1,5 +1,5 @@
 use Rattle.std.proofs.Common.{arith}
-use Rattle.pf_addr.proofs.Network.{network-width, network-host_bits}
+use Rattle.pf_addr.specs.NetworkLaws.{network-width, network-host_bits}
 use Rattle.pf_addr.proofs.parse.prefix_of.Goals as goal
 
 pub invariant_of-result : goal.invariant_of-result

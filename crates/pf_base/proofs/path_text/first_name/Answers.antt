@@ -1,7 +1,7 @@
 use Rattle.std.proofs.Common.{get_or, sym}
 use Rattle.std.proofs.lemmas.List.{take_rest}
 use Rattle.pf_base.specs.Path.{is_slash}
-use Rattle.pf_base.proofs.Cuts.{first_of_position, none_of_position, split_none}
+use Rattle.pf_base.specs.CutLaws.{first_of_position, none_of_position, split_none}
 use Rattle.pf_base.proofs.PathReads.{cuts_name}
 use Rattle.pf_base.proofs.path_text.first_name.Goals as goal
 

@@ -1,6 +1,6 @@
 -- The lemmas on cuts.
 use Rattle.std.proofs.Common.{◌∷◌, ap, ◌∙◌}
-use Rattle.pf_base.proofs.Cuts.{first_of_position, none_of_position, split_at_first, split_none}
+use Rattle.pf_base.specs.CutLaws.{first_of_position, none_of_position, split_at_first, split_none}
 use Rattle.pf_base.proofs.Words.{one_word, empty_has_none}
 use Rattle.pf_base.proofs.text.cut_laws.Goals as goal
 

@@ -1,7 +1,7 @@
 use Rattle.std.proofs.Common.{get_or, sym}
 use Rattle.std.proofs.lemmas.List.{take_rest}
 use Rattle.pf_base.specs.Text.{is_newline}
-use Rattle.pf_base.proofs.Cuts.{first_of_position, none_of_position}
+use Rattle.pf_base.specs.CutLaws.{first_of_position, none_of_position}
 use Rattle.pf_base.proofs.Lines.{cuts_line, ends_no_line}
 use Rattle.pf_base.proofs.text.split_line.Goals as goal
 

@@ -1,7 +1,7 @@
 use Rattle.std.proofs.Common.{◌≡◌, ℕ, ◌+◌, ◌-◌, ◌<◌, not, List, [], ◌∷◌, length, take, drop, get_or, sym, ap, ◌∙◌, subst, drop-cons, add-one}
 use Rattle.std.proofs.lemmas.List.{take_rest}
 use Rattle.pf_base.specs.Text.{is_blank, words_of, CutsWord}
-use Rattle.pf_base.proofs.Cuts.{IsFirst, NonePasses, not_true, first_of_position, none_of_position}
+use Rattle.pf_base.specs.CutLaws.{IsFirst, NonePasses, not_true, first_of_position, none_of_position}
 use Rattle.pf_base.proofs.Words.{no_words, skip_blanks, one_word, first_word}
 use Rattle.pf_base.proofs.text.split_word.Goals as goal
 

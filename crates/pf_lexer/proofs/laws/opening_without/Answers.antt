@@ -3,4 +3,4 @@ use Rattle.pf_lexer.proofs.OutageLemmas.{opens_without}
 use Rattle.pf_lexer.proofs.laws.opening_without.Goals as goal
 
 pub returns : goal.returns
-returns c = λ disk less gone lacks name reads later answer opens. opens_without disk less gone lacks name reads later answer opens
+returns c = λ disk gone name reads later answer opens. opens_without disk gone name reads later answer opens

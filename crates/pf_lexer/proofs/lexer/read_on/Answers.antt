@@ -1,7 +1,6 @@
 -- One statement more, the end, or a fault.
-use Rattle.std.proofs.Common.{◌≡◌, List, [], ◌∷◌, ◌++◌, Option, Some, None, Ok, Err, sym, ap, ◌∙◌, subst, append-nil, append_assoc, arith}
-use Rattle.pf_source.specs.Files.{StaysHeld}
-use Rattle.pf_source.specs.Told.{Held, FilesTold, file_of}
+use Rattle.std.proofs.Common.{◌≡◌, List, [], ◌∷◌, ◌++◌, Some, None, Err, sym, ap, ◌∙◌, subst, append-nil, append_assoc}
+use Rattle.pf_source.specs.Told.{file_of}
 use Rattle.pf_lexer.specs.declared.deed.Statement.{Statement}
 use Rattle.pf_lexer.specs.declared.fault.LexFault.{LexFault}
 use Rattle.pf_lexer.specs.Calls.{LacksMemoryIn}
@@ -19,7 +18,7 @@ loop-statement-preserved g c =
             (sym (append_assoc c.loop-statement.statements.items (c.in-Ok-Some.statement ∷ []) rest) ∙ ap (λ t. t ++ rest) (sym c.in_ok-push-in-Ok-Some.ensures.items))
             (c.loop-statement.invariant.handed.at held told (c.in-Ok-Some.statement ∷ rest) fault later (Handed.next (ok.at held (c.loop-statement.invariant.held.held ∙ told)) more));
       };
-      held = record { held = c.in-Ok-Some.ensures.held.held ∙ c.loop-statement.invariant.held.held; steady = c.in-Ok-Some.ensures.held.steady ∙ c.loop-statement.invariant.held.steady };
+      held = record { held = c.in-Ok-Some.ensures.asks.files.held.held ∙ c.loop-statement.invariant.held.held; steady = c.in-Ok-Some.ensures.asks.files.held.steady ∙ c.loop-statement.invariant.held.steady };
       known = c.in-Ok-Some.ensures.known;
     }
 

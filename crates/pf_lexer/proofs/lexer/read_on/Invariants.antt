@@ -1,5 +1,5 @@
 use Rattle.std.proofs.Common.{◌≤◌, ◌++◌, List, Option, length}
-use Rattle.pf_source.specs.Files.{StaysHeld}
+use Rattle.pf_source.specs.Asks.{StaysHeld}
 use Rattle.pf_source.specs.Told.{Told, file_of}
 use Rattle.pf_lexer.specs.declared.deed.Statement.{Statement}
 use Rattle.pf_lexer.specs.declared.fault.LexFault.{LexFault}

@@ -1,7 +1,6 @@
 -- The first file is read and its statements follow, or it isn't.
-use Rattle.std.proofs.Common.{◌≡◌, List, [], Option, Some, None, Ok, Err, sym, ap, ◌∙◌, subst}
+use Rattle.std.proofs.Common.{◌≡◌, [], Some, Err, sym, ◌∙◌, subst}
 use Rattle.pf_source.specs.Told.{file_of}
-use Rattle.pf_lexer.specs.declared.deed.Statement.{Statement}
 use Rattle.pf_lexer.specs.declared.fault.LexFault.{LexFault}
 use Rattle.pf_lexer.specs.Units.{Opens, UnitOf}
 use Rattle.pf_lexer.proofs.OneUnit.{unit_one}
@@ -10,7 +9,7 @@ use Rattle.pf_lexer.proofs.lexer.read_unit.Goals as goal
 
 pub returns-in_ok-found-in-Ok-clause-found : goal.returns-in_ok-found-in-Ok-clause-found
 returns-in_ok-found-in-Ok-clause-found g c = record {
-  at = λ held told. UnitOf.begun (c.in-Ok.ensures.ok.at held told) (c.in_ok-found-in-Ok.ensures.at held (c.in-Ok.ensures.held.held ∙ told));
+  at = λ held told. UnitOf.begun (c.in-Ok.ensures.ok.at held told) (c.in_ok-found-in-Ok.ensures.at held (c.in-Ok.ensures.asks.files.held.held ∙ told));
 }
 
 pub returns-in_ok-found-in-Ok-clause-only : goal.returns-in_ok-found-in-Ok-clause-only

@@ -1,8 +1,9 @@
 -- The file's cells, or why there are none.
-use Rattle.std.proofs.Common.{ap}
+use Rattle.std.proofs.Common.{[], Ok, Err, ap}
 use Rattle.pf_source.specs.Told.{file_of}
 use Rattle.pf_lexer.specs.ReadSoFar.{ReadSoFar}
-use Rattle.pf_lexer.proofs.OpeningLemmas.{opens_file, opens_none, none_numbered, file_in, file_weight}
+use Rattle.pf_lexer.proofs.Numbers.{has_its_number}
+use Rattle.pf_lexer.proofs.OpeningLemmas.{opens_file, opens_none, none_numbered, file_in, file_weight, asks_made, asks_unopened, made_by}
 use Rattle.pf_lexer.proofs.unit.open_file.Goals as goal
 
 pub returns-in-Ok-clause-ok : goal.returns-in-Ok-clause-ok
@@ -28,3 +29,18 @@ returns-in-Err-clause-err g c = record {
 
 pub returns-in-Err-clause-places : goal.returns-in-Err-clause-places
 returns-in-Err-clause-places g c = rw c.unopened.ensures (none_numbered c.read.new.self.names c.args.name c.in-Err.fault c.in-Err.ensures.named)
+
+pub returns-in-Ok-clause-numbered : goal.returns-in-Ok-clause-numbered
+returns-in-Ok-clause-numbered g c =
+    rw (ap (λ (r : ReadSoFar). r.names) c.in-Ok.ensures.after) (has_its_number c.args.reads.now.names c.args.name)
+
+pub returns-in-Ok-clause-asks : goal.returns-in-Ok-clause-asks
+returns-in-Ok-clause-asks g c =
+    asks_made [] (g.F.Files.tells c.args.files.now) (g.F.Files.tells c.read.new.files) c.args.reads.now c.read.new.self c.in-Ok.ensures.asks
+    (made_by c.args.reads.now c.read.new.self c.args.name (Ok c.in-Ok.file) c.in-Ok.ensures.after c.in-Ok.ensures.within) c.in-Ok.ensures.grows
+
+pub returns-in-Err-clause-asks : goal.returns-in-Err-clause-asks
+returns-in-Err-clause-asks g c =
+    rw c.unopened.ensures
+    (asks_unopened c.args.name c.in-Err.fault (g.F.Files.tells c.args.files.now) (g.F.Files.tells c.read.new.files) c.args.reads.now c.read.new.self c.in-Err.ensures.asks
+    (made_by c.args.reads.now c.read.new.self c.args.name (Err c.in-Err.fault) c.in-Err.ensures.after tt) c.in-Err.ensures.grows)

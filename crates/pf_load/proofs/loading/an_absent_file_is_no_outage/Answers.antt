@@ -1,7 +1,7 @@
 use Rattle.std.proofs.Common.{subst}
-use Rattle.pf_runs.specs.Runs.{Disk}
+use Rattle.pf_source.specs.Disk.{Disk}
+use Rattle.pf_source.specs.DiskLaws.{same_disk}
 use Rattle.pf_load.specs.Load.{Loads}
-use Rattle.pf_load.proofs.Lacking.{same_disk}
 use Rattle.pf_load.proofs.loading.an_absent_file_is_no_outage.Goals as goal
 
 pub returns : goal.returns

@@ -1,8 +1,9 @@
 use Rattle.std.proofs.Common.{[], ◌∷◌, Some, Ok, Err, sym, ap, ◌∙◌, append-nil}
 use Rattle.pf_source.specs.Told.{file_of}
-use Rattle.pf_lexer.specs.Calls.{unread_by as unread_by_lexer}
+use Rattle.pf_source.specs.AskingLaws.{asked_on}
+use Rattle.pf_lexer.specs.Calls.{unread_by}
 use Rattle.pf_load.specs.Load.{rules_said}
-use Rattle.pf_load.proofs.Following.{asked_on, at_end, at_fault, at_faulty, lexer_asks, one_more}
+use Rattle.pf_load.proofs.Following.{at_end, at_fault, at_faulty, lexer_asks, one_more}
 use Rattle.pf_load.proofs.loading.read_rules.Goals as goal
 use Rattle.pf_load.proofs.loading.read_rules.Goals.{in-Nothing, in-Rule+in_ok-push-in-Rule}
 
@@ -15,7 +16,7 @@ returns-in-Faulty-clause-means g c = record {
 
 pub loop-statement-preserved : goal.loop-statement-preserved
 loop-statement-preserved g c =
-    let asks = lexer_asks c.loop-statement.lexer.stage (Ok c.in-Ok-Some.field-0) (g.F.Files.tells c.loop-statement.files) (g.F.Files.tells c.next_statement.new.files) c.loop-statement.invariant.goes c.in-Ok-Some.ensures.held c.in-Ok-Some.ensures.faults c.in-Ok-Some.ensures.failed c.in-Ok-Some.ensures.steady in
+    let asks = lexer_asks c.loop-statement.lexer.stage (Ok c.in-Ok-Some.field-0) (g.F.Files.tells c.loop-statement.files) (g.F.Files.tells c.next_statement.new.files) c.loop-statement.invariant.goes c.in-Ok-Some.ensures.asks.files in
     record {
       asks = asked_on [] (g.F.Files.tells c.args.files.now) (g.F.Files.tells c.loop-statement.files) (g.F.Files.tells c.next_statement.new.files) c.loop-statement.invariant.asks asks;
       known = c.next_statement.ensures.known;
@@ -49,5 +50,5 @@ returns-in-Err-clause-means g c = record {
 
 pub returns-in-Err-clause-asks : goal.returns-in-Err-clause-asks
 returns-in-Err-clause-asks g c =
-    let asks = lexer_asks c.loop-statement.lexer.stage (Err c.in-Err.fault) (g.F.Files.tells c.loop-statement.files) (g.F.Files.tells c.next_statement.new.files) c.loop-statement.invariant.goes c.in-Err.ensures.held c.in-Err.ensures.faults c.in-Err.ensures.failed c.in-Err.ensures.steady in
-    rw c.lexical_fault.ensures.reads (asked_on (unread_by_lexer c.in-Err.fault) (g.F.Files.tells c.args.files.now) (g.F.Files.tells c.loop-statement.files) (g.F.Files.tells c.next_statement.new.files) c.loop-statement.invariant.asks asks)
+    let asks = lexer_asks c.loop-statement.lexer.stage (Err c.in-Err.fault) (g.F.Files.tells c.loop-statement.files) (g.F.Files.tells c.next_statement.new.files) c.loop-statement.invariant.goes c.in-Err.ensures.asks.files in
+    rw c.lexical_fault.ensures.reads (asked_on (unread_by c.in-Err.fault) (g.F.Files.tells c.args.files.now) (g.F.Files.tells c.loop-statement.files) (g.F.Files.tells c.next_statement.new.files) c.loop-statement.invariant.asks asks)

@@ -1,8 +1,8 @@
 use Rattle.std.proofs.Common.{[], ◌≤◌, length}
+use Rattle.pf_source.specs.Asks.{Asks}
 use Rattle.pf_source.specs.Told.{Told, file_of}
 use Rattle.pf_lexer.specs.Calls.{IsGoing}
 use Rattle.pf_lexer.specs.Going.{stage_weight}
-use Rattle.pf_load.specs.Load.{Asks}
 use Rattle.pf_load.proofs.Following.{SoFar}
 use Rattle.pf_load.proofs.loading.read_rules.Given as goal
 

@@ -1,4 +1,4 @@
-use Rattle.pf_source.proofs.Known.{written_more, written_front, Appends-none}
+use Rattle.pf_source.specs.KnownLaws.{written_more, written_front, Appends-none}
 use Rattle.pf_source.proofs.real.write_whole.Goals as goal
 
 pub loop-rest-preserved : goal.loop-rest-preserved

@@ -1,5 +1,5 @@
 use Rattle.std.proofs.Common.{length}
-use Rattle.pf_source.proofs.Known.{WrittenSoFar}
+use Rattle.pf_source.specs.KnownLaws.{WrittenSoFar}
 use Rattle.pf_source.proofs.real.write_whole.Given as goal
 
 -- the front so far was written

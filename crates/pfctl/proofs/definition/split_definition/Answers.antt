@@ -1,6 +1,6 @@
 use Rattle.std.proofs.Common.{get_or, sym}
 use Rattle.std.proofs.lemmas.List.{take_rest}
-use Rattle.pf_base.proofs.Cuts.{first_of_position, none_of_position}
+use Rattle.pf_base.specs.CutLaws.{first_of_position, none_of_position}
 use Rattle.pfctl.proofs.Definitions.{is_equals, no_value, name_at, value_at}
 use Rattle.pfctl.proofs.definition.split_definition.Goals as goal
 

@@ -1,5 +1,5 @@
 use Rattle.std.proofs.Common.{arith, rules, ◌-◌}
-use Rattle.pf_addr.proofs.Network.{cleared_le}
+use Rattle.pf_addr.specs.NetworkLaws.{cleared_le}
 use Rattle.pf_addr.proofs.addr.Addr.network.Goals as goal
 
 pub overflow_cast-result : goal.overflow_cast-result

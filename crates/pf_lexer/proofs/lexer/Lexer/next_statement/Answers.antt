@@ -1,9 +1,10 @@
 -- The unit goes on, or its fault comes again.
-use Rattle.std.proofs.Common.{◌≡◌, Option, Some, length, ap, sym, ◌∙◌, subst, arith}
+use Rattle.std.proofs.Common.{Option, Err, length, ap, sym, ◌∙◌, subst, arith}
 use Rattle.pf_source.specs.Told.{file_of}
 use Rattle.pf_lexer.specs.declared.fault.LexFault.{LexFault}
 use Rattle.pf_lexer.specs.Calls.{IsKnown}
 use Rattle.pf_lexer.specs.Stages.{LexerState, stage_of}
+use Rattle.pf_lexer.proofs.GoingLemmas.{asks_again}
 use Rattle.pf_lexer.proofs.StepLemmas.{stands_more, found_numbered}
 use Rattle.pf_lexer.proofs.StopLemmas.{again_stops}
 use Rattle.pf_lexer.proofs.lexer.Lexer.next_statement.Goals as goal
@@ -39,3 +40,8 @@ returns-in-Err-clause-places g c =
     let known = subst (λ (f : Option LexFault). IsKnown c.self.inside.known (stage_of c.self.inside.unit f)) c.in_default.is c.self.invariant in
     let within = stands_more c.self.inside.known (length c.args.reads.now.names) (omega (arith, c.requires, ap (λ (s : LexerState). s.known) c.self.view_is)) c.self.inside.unit known in
     c.in-Err.ensures.places within
+
+pub returns-in-Some-clause-asks : goal.returns-in-Some-clause-asks
+returns-in-Some-clause-asks g c =
+    asks_again c.args.self.now.stage c.in-Some.fault (Err c.again.result) (g.F.Files.tells c.args.files.now) c.args.reads.now
+    (sym (ap (λ (s : LexerState). s.stage) c.self.view_is) ∙ ap (stage_of c.self.inside.unit) c.in-Some.is)

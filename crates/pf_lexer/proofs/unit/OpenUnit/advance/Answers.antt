@@ -63,3 +63,11 @@ returns-in-Over-clause-ok g c =
           goes_leads (file_of held) c.args.self.now c.loop-statement.self c.args.reads.now c.loop-statement.reads (c.loop-statement.invariant.goes.at held told) (Ok None) (going c.step.new.self) c.step.new.reads
           (turns.at held (told_later [] (g.F.Files.tells c.args.files.now) (g.F.Files.tells c.loop-statement.files) (g.F.Files.tells c.step.new.files) c.args.reads.now c.loop-statement.reads c.step.new.reads c.loop-statement.invariant.asks c.in_ok-step.ensures.asks held told));
     }
+
+pub returns-in-Hands-clause-asks : goal.returns-in-Hands-clause-asks
+returns-in-Hands-clause-asks g c =
+    asks_both [] (g.F.Files.tells c.args.files.now) (g.F.Files.tells c.loop-statement.files) (g.F.Files.tells c.step.new.files) c.args.reads.now c.loop-statement.reads c.step.new.reads c.loop-statement.invariant.asks c.in_ok-step.ensures.asks
+
+pub returns-in-Over-clause-asks : goal.returns-in-Over-clause-asks
+returns-in-Over-clause-asks g c =
+    asks_both [] (g.F.Files.tells c.args.files.now) (g.F.Files.tells c.loop-statement.files) (g.F.Files.tells c.step.new.files) c.args.reads.now c.loop-statement.reads c.step.new.reads c.loop-statement.invariant.asks c.in_ok-step.ensures.asks

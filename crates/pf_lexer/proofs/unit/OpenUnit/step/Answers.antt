@@ -5,6 +5,7 @@ use Rattle.std.proofs.lemmas.Result.{err_from_is_err_and}
 use Rattle.pf_source.specs.Told.{file_of}
 use Rattle.pf_token.specs.declared.cell.Cell.{Cell}
 use Rattle.pf_lexer.specs.declared.deed.Deed.TheVariants.{Nothing, Hands, Includes, Ends}
+use Rattle.pf_lexer.proofs.GoingLemmas.{asks_answered, asks_nothing}
 use Rattle.pf_lexer.proofs.StepLemmas.{stopped_here, step_passed, step_hands, step_fails, step_leaves, step_over, step_included, step_stopped, top_in, still_in, over_in, entered_in, stands_more, goes_on_length}
 use Rattle.pf_lexer.proofs.StopLemmas.{answered_numbered}
 use Rattle.pf_lexer.proofs.unit.OpenUnit.step.Goals as goal
@@ -124,3 +125,23 @@ returns-in_ok-include-in-Includes-clause-within g c = λ within.
     let stays = rw c.in-Includes.is at c.in_ok-take_statement.ensures.places count (top_in count c.self.inside.macros c.self.inside.top (reverse c.self.inside.below.items) c.args.self.now c.self.view_is more) in
     entered_in count c.self.inside.macros c.self.inside.top (reverse c.self.inside.below.items) c.args.self.now c.self.view_is more (Includes c.in-Includes.name) c.take_statement.new.macros c.take_statement.new.reader c.include.new.self
     stays c.in_ok-include-in-Includes.ensures.enters c.in_ok-include-in-Includes.ensures.within
+
+pub returns-in_err-take_statement-clause-asks : goal.returns-in_err-take_statement-clause-asks
+returns-in_err-take_statement-clause-asks g c =
+    let p = err_from_is_err_and c.from_residual.result c.from_residual.ensures.1 in
+    rw p.1 (rw p.2 (asks_nothing (g.F.Files.tells c.args.files.now) c.args.reads.now))
+
+pub returns-in-Nothing-clause-asks : goal.returns-in-Nothing-clause-asks
+returns-in-Nothing-clause-asks g c = asks_nothing (g.F.Files.tells c.args.files.now) c.args.reads.now
+
+pub returns-in-Hands-clause-asks : goal.returns-in-Hands-clause-asks
+returns-in-Hands-clause-asks g c = asks_nothing (g.F.Files.tells c.args.files.now) c.args.reads.now
+
+pub returns-in-Ends-clause-asks : goal.returns-in-Ends-clause-asks
+returns-in-Ends-clause-asks g c = asks_nothing (g.F.Files.tells c.args.files.now) c.args.reads.now
+
+pub returns-in-Ends-2-clause-asks : goal.returns-in-Ends-2-clause-asks
+returns-in-Ends-2-clause-asks g c = asks_nothing (g.F.Files.tells c.args.files.now) c.args.reads.now
+
+pub returns-in-Fails-clause-asks : goal.returns-in-Fails-clause-asks
+returns-in-Fails-clause-asks g c = rw c.answered.ensures (asks_answered c.in-Fails.fault (g.F.Files.tells c.args.files.now) c.args.reads.now)

@@ -7,7 +7,7 @@ use Rattle.std.specs.FinMap.{get, from_entries}
 use Rattle.std.specs.Option.{option_or}
 use Rattle.std.proofs.lemmas.Bool.{false≢true}
 use Rattle.pf_token.specs.Macros.{Table}
-use Rattle.pf_token.proofs.MapLemmas.{value_of_named, value_of_none}
+use Rattle.pf_token.proofs.NameLemmas.{value_of_named, value_of_none}
 use Rattle.pf_token.proofs.macros.Macros.find.Goals as goal
 
 pub returns-in_err-name : goal.returns-in_err-name

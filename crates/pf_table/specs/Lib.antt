@@ -1,0 +1,5 @@
+pub mod Bits
+pub mod Node
+pub mod Trie
+pub mod Table
+pub mod Kept
