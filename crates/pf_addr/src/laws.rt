@@ -11,8 +11,12 @@ ghost use Rattle.pf_addr.specs.Addr.{IsAddr, SameFamily, family_of};
 ghost use Rattle.pf_addr.specs.AddrOrder.{addr_cmp, addr_eq};
 ghost use Rattle.pf_addr.specs.Grammar.{IsAddrText, IsNetworkText, Writes};
 ghost use Rattle.pf_addr.specs.PrefixOrder.{prefix_cmp, prefix_eq};
+ghost use Rattle.pf_addr.specs.Prefix as prefix_sets;
 ghost use Rattle.pf_addr.specs.PrefixText.{IsMaskedText, IsPrefixText, prefix_text};
+ghost use Rattle.pf_addr.specs.Range as range_sets;
 ghost use Rattle.pf_addr.specs.RangeOrder.{range_eq};
+ghost use Rattle.pf_addr.specs.Stretch as stretches;
+ghost use Rattle.pf_addr.specs.Stretch.{prefix_stretch, range_stretch};
 ghost use Rattle.pf_addr.specs.Text.{addr_text};
 ghost use Rattle.pf_addr.specs.Words.{IsOneWord, is_addr_byte, is_prefix_byte};
 
@@ -27,6 +31,12 @@ pub fn equal_values_are_one()
     ensures addr_order { IsTotalOrder addr_cmp }
     ensures prefix_order { IsTotalOrder prefix_cmp }
     ensures families { (a b : Addr) → SameFamily a b ↔ (family_of a ≡ family_of b) }
+{}
+
+/// The stretch of a prefix or a range has exactly its addresses.
+pub fn stretches_have_the_addresses()
+    ensures prefixes { (p : Prefix) (a : Addr) → stretches.contains (prefix_stretch p) a ≡ prefix_sets.contains p a }
+    ensures ranges { (r : Range) (a : Addr) → stretches.contains (range_stretch r) a ≡ range_sets.contains r a }
 {}
 
 /// A text writes at most one address, one network before a mask, one prefix, and one address with its network.

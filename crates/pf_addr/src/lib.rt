@@ -18,7 +18,7 @@ pub use addr::Addr;
 pub use ifaces::{DynIf, Ifaces};
 pub use laws::{
     equal_values_are_one, printed_texts_are_one_word, printed_texts_read_back,
-    texts_are_read_in_one_way,
+    stretches_have_the_addresses, texts_are_read_in_one_way,
 };
 pub use parse::{AddrFault, Masked, parse_addr, parse_masked, parse_prefix, parse_prefix_parts};
 pub use prefix::Prefix;

@@ -3,3 +3,5 @@ pub mod Node
 pub mod Trie
 pub mod Table
 pub mod Kept
+pub mod Pushed
+pub mod TableLaws

@@ -8,7 +8,7 @@ ghost use Rattle.pf_table.specs.declared.entry.Entry.{Entry as OneEntry};
 ghost use Rattle.std.specs.Prelude.{map as list_map};
 ghost use Rattle.std.specs.BTreeMap.{IsOrdered};
 ghost use Rattle.pf_addr.specs.PrefixOrder.{prefix_cmp};
-ghost use Rattle.pf_table.specs.Table.{with_entry, without_entry, entry, entries_of, narrowest, member, IsNarrowest};
+ghost use Rattle.pf_table.specs.Table.{table_of, with_entry, without_entry, entry, entries_of, narrowest, member, IsNarrowest};
 
 use crate::entry::Entry;
 use crate::node::Node;
@@ -23,7 +23,8 @@ use std::marker::Model;
 /// their signs, true for a negated one.
 #[derive(Debug, Drop)]
 pub struct Table {
-    // Nodes stay where an entry goes, and serve its prefix again: two at most for each prefix ever added.
+    // Nodes stay where an entry goes, and serve its prefix again: two at most for each prefix ever added. `thin`
+    // drops those of prefixes that are gone.
     nodes: Vec<Node>,
     len: u64,
 }
@@ -50,6 +51,49 @@ impl Table {
         Table {
             nodes: Vec::new(alloc),
             len: 0,
+        }
+    }
+
+    /// The table of these entries: each prefix with the sign with which it first stands.
+    pub fn of(alloc: Global, entries: &[Entry]) -> Result<Table, NoMemory>
+        ensures { IfOk result (λ table. table ≡ table_of entries.now) }
+    {
+        let mut table = Table::new(alloc);
+        for entry in entries {
+            table.add(*entry)?;
+        }
+        Ok(table)
+    }
+
+    /// Another table of the same entries.
+    pub fn copy(&self) -> Result<Table, NoMemory>
+        ensures { IfOk result (λ table. table ≡ self.now) }
+    {
+        let nodes = Vec::from_slice(*self.nodes.allocator(), &self.nodes)?;
+        Ok(Table {
+            nodes,
+            len: self.len,
+        })
+    }
+
+    // The same table, without the nodes of prefixes that are gone.
+    fn anew(&self) -> Result<Table, NoMemory>
+        ensures { IfOk result (λ table. table ≡ self.now) }
+    {
+        let list = self.entries()?;
+        Table::of(*self.nodes.allocator(), &list)
+    }
+
+    /// Gives room back, where it has more than four nodes for each entry and 64 besides, and where memory is found.
+    /// Its entries stay.
+    pub fn thin(&mut self)
+        ensures { self.new ≡ self.old }
+    {
+        if (self.nodes.len() as u64).saturating_sub(64) / 4 <= self.len {
+            return;
+        }
+        if let Ok(table) = self.anew() {
+            *self = table;
         }
     }
 
@@ -86,6 +130,16 @@ impl Table {
         set_sign(&mut self.nodes, at, None);
         self.len -= 1;
         true
+    }
+
+    /// The sign of the entry of this prefix, true for a negated one; None where the table has none. It takes no memory.
+    pub fn sign_of(&self, prefix: &Prefix) -> Option<bool>
+        ensures { result ≡ map.get self.now prefix.now }
+    {
+        match find(&self.nodes, prefix) {
+            None => None,
+            Some(at) => node(&self.nodes, at).negated,
+        }
     }
 
     /// Whether the address is in the table: the longest of the entries that contain it decides by its sign.

@@ -1,6 +1,6 @@
 //! Tables by calls.
 use crate::{Entry, Table};
-use pf_addr::{Addr, parse_prefix};
+use pf_addr::{Addr, Prefix, parse_prefix};
 use std::process::Abort;
 use std::test::Fail;
 
@@ -71,5 +71,30 @@ fn removed_entries_are_gone(rt: HostRuntime) -> Result<(), Fail> {
     assert!(rt; !table.remove(&entry(&rt, "!10.1/16")));
     assert!(rt; table.lookup(&addr(&rt, "10.1.3.1")));
     assert_eq!(rt; table.len(), 3);
+    Ok(())
+}
+
+#[test]
+fn room_is_given_back(rt: HostRuntime) -> Result<(), Fail> {
+    let list = ["10/8", "!10.1/16", "10/8", "!10/8", "::1"].map(|word| entry(&rt, word));
+    let table = Table::of(rt.alloc(), &list).ok().expect(&rt, "memory");
+    assert_eq!(rt; table.len(), 3);
+    assert_eq!(rt; table.sign_of(&list[1].prefix), Some(true));
+    let mut copy = table.copy().ok().expect(&rt, "memory");
+    for number in 0..80u32 {
+        let prefix = Prefix::of(&Addr::V4(number));
+        let more = Entry {
+            prefix,
+            negated: false,
+        };
+        assert!(rt; copy.add(more).ok().expect(&rt, "memory"));
+        assert!(rt; copy.remove(&more));
+    }
+    assert_eq!(rt; copy.sign_of(&Prefix::of(&Addr::V4(7))), None);
+    copy.thin();
+    let left = copy.entries().ok().expect(&rt, "memory");
+    let wanted = ["10/8", "!10.1/16", "::1"].map(|word| entry(&rt, word));
+    assert_eq!(rt; left.as_slice(), wanted.as_slice());
+    assert!(rt; !copy.lookup(&addr(&rt, "10.1.3.1")));
     Ok(())
 }

@@ -1,0 +1,4 @@
+pub mod Shelf
+pub mod Change
+pub mod Renewed
+pub mod Altered
