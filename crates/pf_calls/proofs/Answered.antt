@@ -1,6 +1,6 @@
 -- What is told of the calls of rows.
-use Rattle.std.proofs.Common.{◌≡◌, ℕ, zero, suc, ◌+◌, ◌-◌, ◌<◌, ◌≤◌, ◌⊎◌, Bool, true, false, List, [], ◌∷◌, length, Option, Some, None, refl, sym, ap, ◌∙◌, subst, inl, inr, arith}
-use Rattle.std.specs.Prelude.{Contains, IsTrue, ◌↔◌}
+use Rattle.std.proofs.Common.{◌≡◌, ℕ, zero, suc, ◌<◌, ◌≤◌, ◌⊎◌, true, List, length, Option, Some, None, refl, sym, ap, ◌∙◌, subst, inl, inr, arith}
+use Rattle.std.specs.Prelude.{IsTrue, ◌↔◌}
 use Rattle.std.specs.declared.cmp.Ordering.{Ordering}
 use Rattle.std.specs.declared.cmp.Ordering.TheVariants.{Less, Equal, Greater}
 use Rattle.std.specs.Ordering.{is_le, ordering_reverse}
@@ -12,7 +12,7 @@ use Rattle.pf_tree.specs.GrownLaws.{path_total, path_same}
 use Rattle.pf_calls.specs.declared.row.CallRow.{CallRow}
 use Rattle.pf_calls.specs.declared.row.CallFault.{CallFault}
 use Rattle.pf_calls.specs.declared.row.CallFault.TheVariants.{Cycle, Deep}
-use Rattle.pf_calls.specs.Graph.{Graph, IsDeep, IsFirstOnCycle, IsListed, IsRanking, IsShallow, OnCycle}
+use Rattle.pf_calls.specs.Graph.{IsDeep, IsFirstOnCycle, IsRanking, IsShallow, OnCycle}
 use Rattle.pf_calls.specs.GraphLaws.{is_within, no_cycle_within, rank_by, rank_unique, ranked_no_cycle, ranked_within, ranking_by, within_ranked}
 use Rattle.pf_calls.specs.Calls.{graph_of, path_eq, paths_of}
 use Rattle.pf_calls.specs.Numbered.{IsCopy, IsDepth, IsFault, IsOver, numbered, path_at}
@@ -50,31 +50,33 @@ module _ (rows : List CallRow) (links : List (List ℕ)) (copy : IsCopy (numbere
   pub deep : (depth : ℕ) → 64 < depth → IsDepth links depth → IsFault rows (Some (Deep depth))
   deep zero few is = absurd (omega arith)
   deep (suc before) many is =
-      let over = is.least before (omega arith) in
-      (many, record {
-        no_cycle = ranked_no_cycle (graph_of rows) (rank_by (graph_of rows) (suc before)) (ranks (suc before) is);
-        rank = rank_by (graph_of rows) (suc before);
-        ranking = ranks (suc before) is;
-        deepest = path_at rows over.place;
-        there = elim (at_most_or (rank_by (graph_of rows) (suc before) (path_at rows over.place)) before (bound (suc before) is (path_at rows over.place))) [ inl few ↦ absurd (is_over before is over few) | inr same ↦ same ];
-        no_deeper = bound (suc before) is;
-      })
+      let over = is.least before (omega arith) in (
+        many,
+        record {
+          no_cycle = ranked_no_cycle (graph_of rows) (rank_by (graph_of rows) (suc before)) (ranks (suc before) is);
+          rank = rank_by (graph_of rows) (suc before);
+          ranking = ranks (suc before) is;
+          deepest = path_at rows over.place;
+          there = elim (at_most_or (rank_by (graph_of rows) (suc before) (path_at rows over.place)) before (bound (suc before) is (path_at rows over.place))) [ inl few ↦ absurd (is_over before is over few) | inr same ↦ same ];
+          no_deeper = bound (suc before) is;
+        },
+      )
 
   -- the first place on a cycle has the first path on one
   pub first_path : IsStrictlySortedBy path_cmp (paths_of rows) → length links ≡ length rows → (place : ℕ) → place < length rows → OnCycle (numbered links) place → ((i : ℕ) → i < place → OnCycle (numbered links) i → ⊥) → IsFirstOnCycle (graph_of rows) path_cmp (path_at rows place)
   first_path sorted long place inside cycle none = record {
     there = cycle_forth (numbered links) (graph_of rows) (path_at rows) copy place cycle;
     first = λ path other.
-      let at = cycle_back (numbered links) (graph_of rows) (path_at rows) copy path other in
-      let lt = ltb-true at.0 (length links) at.1 in
-      subst (λ (p : List (List ℕ)). IsTrue (is_le (path_cmp (path_at rows place) p))) at.3
-      (elim (three place at.0) [
-        | inl below ↦ ap is_le (ascending rows sorted place at.0 below (omega arith))
-        | inr later ↦ elim later [
-          | inl above ↦ absurd (none at.0 above at.2)
-          | inr same ↦ ap (λ (j : ℕ). is_le (path_cmp (path_at rows place) (path_at rows j))) (sym same) ∙ ap is_le (tied_itself path_total (path_at rows place))
-        ]
-      ]);
+        let at = cycle_back (numbered links) (graph_of rows) (path_at rows) copy path other in
+        let lt = ltb-true at.0 (length links) at.1 in
+        subst (λ (p : List (List ℕ)). IsTrue (is_le (path_cmp (path_at rows place) p))) at.3
+        (elim (three place at.0) [
+          | inl below ↦ ap is_le (ascending rows sorted place at.0 below (omega arith))
+          | inr later ↦ elim later [
+            | inl above ↦ absurd (none at.0 above at.2)
+            | inr same ↦ ap (λ (j : ℕ). is_le (path_cmp (path_at rows place) (path_at rows j))) (sym same) ∙ ap is_le (tied_itself path_total (path_at rows place))
+          ]
+        ]);
   }
 
   -- where a rank is over the number of all, some place is on a cycle

@@ -6,7 +6,6 @@ use Rattle.std.specs.Option.{option_and_then}
 use Rattle.std.proofs.lemmas.Bool.{false≢true}
 use Rattle.std.proofs.lemmas.List.{append_cancel_left}
 use Rattle.std.proofs.lemmas.Slice.Eq.{bytes_eq-Decides}
-use Rattle.std.specs.Str.{bytes_eq}
 use Rattle.pf_base.specs.Path.{is_reserved}
 use Rattle.pf_tree.specs.Paths.{name_behind}
 use Rattle.pf_calls.specs.Calls.{child_on, children_of, named_below}
@@ -95,8 +94,8 @@ pub told_named : (at path front : List (List ℕ)) (name : List ℕ) → path �
 told_named at path front name is same = (
   λ h. record { name = name; is = is ∙ ap (λ f. f ++ name ∷ []) same; named = unreserved (is_reserved name) h },
   λ child. (
-    let one = last_same at name child.name (sym (is ∙ ap (λ f. f ++ name ∷ []) same) ∙ child.is) in
-    ap not (ap is_reserved one ∙ child.named)),
+      let one = last_same at name child.name (sym (is ∙ ap (λ f. f ++ name ∷ []) same) ∙ child.is) in
+      ap not (ap is_reserved one ∙ child.named)),
 )
 
 pub told_apart : (at path front : List (List ℕ)) (name : List ℕ) → path ≡ front ++ name ∷ [] → (front ≡ at → ⊥) → IsChild at path → ⊥

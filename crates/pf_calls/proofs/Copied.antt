@@ -1,8 +1,6 @@
 -- Ranks and cycles of a graph that stands for another.
-use Rattle.std.proofs.Common.{◌≡◌, ℕ, zero, suc, ◌+◌, Bool, true, false, List, refl, sym, ap, ◌∙◌, subst, inl, inr}
-use Rattle.std.specs.Prelude.{Contains}
-use Rattle.std.proofs.lemmas.Bool.{false≢true}
-use Rattle.pf_calls.specs.Graph.{Graph, IsStep, LeadsOver, OnCycle}
+use Rattle.std.proofs.Common.{◌≡◌, ℕ, zero, suc, true, refl, sym, ap, ◌∙◌, subst, inl, inr}
+use Rattle.pf_calls.specs.Graph.{Graph, LeadsOver, OnCycle}
 use Rattle.pf_calls.specs.GraphLaws.{in_or_out, is_within, not_within_zero, pass_all, pass_each, within_inside, within_outside}
 use Rattle.pf_calls.specs.Numbered.{IsCopy}
 

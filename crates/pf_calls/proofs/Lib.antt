@@ -6,3 +6,4 @@ pub mod Copied
 pub mod Rounds
 pub mod Answered
 pub mod Searched
+mod Examples

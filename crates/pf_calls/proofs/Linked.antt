@@ -1,29 +1,26 @@
 -- The links of all rows are the call graph by places.
-use Rattle.std.proofs.Common.{◌≡◌, ℕ, zero, suc, ◌+◌, ◌<◌, ◌≤◌, ◌⊎◌, Bool, true, false, List, [], ◌∷◌, ◌++◌, length, length-append, map, refl, sym, ap, ◌∙◌, subst, inl, inr, arith, if◌then◌else◌}
+use Rattle.std.proofs.Common.{◌≡◌, ℕ, zero, suc, ◌+◌, ◌<◌, true, false, List, [], ◌∷◌, ◌++◌, length, length-append, refl, sym, ap, ◌∙◌, subst, inl, inr, arith, if◌then◌else◌}
 use Rattle.std.specs.Prelude.{Contains, slice_index_or, nat_lt}
-use Rattle.std.specs.List.{AllByRecursion, flat_map}
+use Rattle.std.specs.List.{flat_map}
 use Rattle.std.specs.Bool.{Decides}
 use Rattle.std.specs.Cmp.{IsEquivalence}
 use Rattle.std.specs.Cmp.Lexicographic.{lists_equiv, nat_list_eq_equiv, pointwise_decides}
-use Rattle.std.specs.declared.cmp.Ordering.TheVariants.{Less}
 use Rattle.std.specs.List.Sorted.{IsStrictlySortedBy}
-use Rattle.std.specs.Set.{is_member}
 use Rattle.std.proofs.lemmas.Map.Made.{is_member-Decides}
 use Rattle.std.proofs.lemmas.Slice.Eq.{bytes_eq-Decides}
 use Rattle.std.proofs.lemmas.Bool.{cases_lt, ltb-true, lt-ltb}
 use Rattle.std.proofs.Math.ListN.{get_or-append, get_or-eq_default}
 use Rattle.std.proofs.Math.Seq.{get_or-append_seam}
-use Rattle.std.proofs.lemmas.Bool.{false≢true}
 use Rattle.pf_parts.specs.declared.call.Call.{Call}
 use Rattle.pf_tree.specs.Order.{path_cmp}
 use Rattle.pf_calls.specs.declared.row.CallRow.{CallRow}
-use Rattle.pf_calls.specs.Graph.{Graph, IsListed, IsStep}
+use Rattle.pf_calls.specs.Graph.{IsListed}
 use Rattle.pf_calls.specs.GraphLaws.{none_in}
 use Rattle.pf_calls.specs.Calls.{call_graph, called, calls_at, graph_of, path_eq, path_of, paths_of}
 use Rattle.pf_calls.specs.Numbered.{IsCopy, IsInside, numbered, path_at}
 use Rattle.pf_calls.specs.Links.{IsLinked, Reaches}
 use Rattle.pf_calls.proofs.Reached.{below_or_here}
-use Rattle.pf_calls.proofs.Placed.{among_paths, as_many, ascending, one_place, path_here, placed}
+use Rattle.pf_calls.proofs.Placed.{among_paths, one_place, path_here, placed}
 
 pub paths_decide : (p q : List (List ℕ)) → Decides (path_eq p q) (p ≡ q)
 paths_decide = pointwise_decides bytes_eq-Decides
@@ -78,7 +75,7 @@ links_more rows sorted i row links found lt is linked reaches = record {
         let path = path_here rows i row lt is in
         let calls = calls_here rows (one_place rows sorted) i row lt is in
         let steps : (graph_of rows).steps (path_at rows i) ≡ flat_map (called (paths_of rows) row.path) row.calls =
-            ap (λ p. flat_map (called (paths_of rows) p) (calls_at rows p)) path ∙ ap (flat_map (called (paths_of rows) row.path)) calls in
+        ap (λ p. flat_map (called (paths_of rows) p) (calls_at rows p)) path ∙ ap (flat_map (called (paths_of rows) row.path)) calls in
         let last : slice_index_or (links ++ found ∷ []) i [] ≡ found = subst (λ (n : ℕ). slice_index_or (links ++ found ∷ []) n [] ≡ found) linked.long (get_or-append_seam links found [] []) in
         subst (λ (j : ℕ). Reaches rows [] ((graph_of rows).steps (path_at rows j)) (slice_index_or (links ++ found ∷ []) j [])) here
         (subst (λ ps. Reaches rows [] ps (slice_index_or (links ++ found ∷ []) i [])) (sym steps) (subst (Reaches rows [] (flat_map (called (paths_of rows) row.path) row.calls)) (sym last) reaches))
@@ -106,12 +103,12 @@ links_copy rows sorted links linked =
       named = λ b h. (let place = placed rows b (is_row rows b h) in (place.place, there place.place place.inside, place.here));
       apart = λ a c h k same. one_place rows sorted a c (has a h) (has c k) same;
       forth = λ a c step. (
-        let lt = has a step.inside in
-        let led = led_inside rows links linked a c lt step.leads in
-        (there c led.0, record { inside = has_row rows a lt; leads = led.1 }));
+          let lt = has a step.inside in
+          let led = led_inside rows links linked a c lt step.leads in
+          (there c led.0, record { inside = has_row rows a lt; leads = led.1 }));
       back = λ a d h step other. (
-        let place = placed rows d (is_row rows d other) in
-        let lt = has a h in
-        let led = (linked.each a lt).all place.place place.inside (subst (Contains ((graph_of rows).steps (path_at rows a))) (sym place.here) step.leads) in
-        (place.place, record { inside = h; leads = led }, place.here));
+          let place = placed rows d (is_row rows d other) in
+          let lt = has a h in
+          let led = (linked.each a lt).all place.place place.inside (subst (Contains ((graph_of rows).steps (path_at rows a))) (sym place.here) step.leads) in
+          (place.place, record { inside = h; leads = led }, place.here));
     }

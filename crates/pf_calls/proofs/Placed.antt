@@ -1,14 +1,14 @@
 -- Rows whose paths ascend: each path has one place, and a binary search finds it.
-use Rattle.std.proofs.Common.{◌≡◌, ℕ, ◌+◌, ◌<◌, ◌≤◌, ◌⊎◌, Bool, true, false, List, [], ◌∷◌, length, map, refl, sym, ap, ◌∙◌, subst, inl, inr, arith, Result, Ok, Err}
+use Rattle.std.proofs.Common.{◌≡◌, ℕ, ◌+◌, ◌-◌, ◌<◌, ◌≤◌, ◌⊎◌, true, false, List, [], length, refl, sym, ap, ◌∙◌, inl, inr, arith, Result, Ok, Err}
 use Rattle.std.specs.Prelude.{Contains, slice_index_or}
 use Rattle.std.specs.declared.cmp.Ordering.{Ordering}
 use Rattle.std.specs.declared.cmp.Ordering.TheVariants.{Less, Equal, Greater}
 use Rattle.std.specs.Ordering.{is_lt, ordering_index, ordering_reverse}
-use Rattle.std.specs.Cmp.{IsTotalOrder, tied_itself}
+use Rattle.std.specs.Cmp.{tied_itself}
 use Rattle.std.specs.Result.{result_ok}
 use Rattle.std.specs.List.Sorted.{IsBinarySearchResult, IsNonDecreasingBy, IsSearchInRange, IsStrictlySortedBy}
-use Rattle.std.proofs.lemmas.Bool.{cases_lt}
-use Rattle.std.proofs.lemmas.Map.Keys.{Less-from_sorted}
+use Rattle.std.proofs.lemmas.Bool.{cases_lt, false≢true}
+use Rattle.std.proofs.lemmas.Map.Keys.{Less-from_sorted, sorted_from_all_adjacent}
 use Rattle.std.proofs.lemmas.List.{get_or-map, get_or_default, length-map}
 use Rattle.std.proofs.lemmas.List.Sorted.{searchable_from_sorted}
 use Rattle.pf_tree.specs.Order.{path_cmp}
@@ -89,3 +89,31 @@ place_told rows path (Err i) sorted range told = λ j lt same.
       | inl below ↦ (let none = untold Less (path_of (slice_index_or rows j no_row)) path (split.0 j no_row (omega arith) below) here in cc)
       | inr above ↦ (let none = untold Greater (path_of (slice_index_or rows j no_row)) path (split.1 j no_row above lt) here in cc)
     ]
+
+-- two rows next to one another
+pub neighbours : (rows : List CallRow) (place : ℕ) (first second : CallRow) → 1 ≤ place → place < length rows → first ≡ slice_index_or rows (place - 1) first → second ≡ slice_index_or rows place second → path_cmp (path_at rows (place - 1)) (path_at rows place) ≡ path_cmp first.path second.path
+neighbours rows place first second some inside one two = λ i. path_cmp (path_here rows (place - 1) first (omega arith) one i) (path_here rows place second inside two i)
+
+is_less : (o : Ordering) → is_lt o ≡ true → o ≡ Less
+is_less Less h = refl
+is_less Equal h = absurd (false≢true h)
+is_less Greater h = absurd (false≢true h)
+
+abbrev pub AscendBelow : List CallRow → ℕ → Type 0
+AscendBelow rows place = (k : ℕ) → k + 1 < place → path_cmp (path_at rows k) (path_at rows (k + 1)) ≡ Less
+
+pub ascend_more : (rows : List CallRow) (place : ℕ) → 1 ≤ place → AscendBelow rows place → is_lt (path_cmp (path_at rows (place - 1)) (path_at rows place)) ≡ true → AscendBelow rows (place + 1)
+ascend_more rows place some below less = λ k lt.
+    elim (cases_lt (k + 1) place) [
+      | inl before ↦ below k before
+      | inr here ↦
+          let first : place - 1 ≡ k = omega arith in
+          let second : place ≡ k + 1 = omega arith in
+          (λ i. path_cmp (path_at rows (sym first i)) (path_at rows (sym second i))) ∙ is_less _ less
+    ]
+
+pub all_ascend : (rows : List CallRow) (place : ℕ) → length rows ≤ place → AscendBelow rows place → IsStrictlySortedBy path_cmp (paths_of rows)
+all_ascend rows place long below = sorted_from_all_adjacent path_total (paths_of rows) [] (λ k lt. below k (let many = as_many rows in omega arith))
+
+pub one_falls : (rows : List CallRow) (place : ℕ) → 1 ≤ place → place < length rows → is_lt (path_cmp (path_at rows (place - 1)) (path_at rows place)) ≡ false → IsStrictlySortedBy path_cmp (paths_of rows) → ⊥
+one_falls rows place some inside off sorted = false≢true (sym off ∙ ap is_lt (ascending rows sorted (place - 1) place (omega arith) inside))

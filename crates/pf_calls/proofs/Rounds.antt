@@ -1,13 +1,12 @@
 -- Round by round, the places whose rank is within a bound.
-use Rattle.std.proofs.Common.{◌≡◌, ℕ, zero, suc, ◌+◌, ◌<◌, ◌≤◌, ◌⊎◌, Bool, true, false, List, [], ◌∷◌, ◌++◌, length, take, map, Some, None, add-one, refl, sym, ap, ◌∙◌, subst, inl, inr, arith}
-use Rattle.std.specs.Prelude.{Contains, slice_index_or, nat_lt, not, ◌||◌}
+use Rattle.std.proofs.Common.{◌≡◌, ℕ, zero, suc, ◌+◌, ◌<◌, ◌≤◌, ◌⊎◌, Bool, true, false, List, [], ◌∷◌, ◌++◌, length, take, add-one, refl, sym, ap, ◌∙◌, subst, inl, inr, arith}
+use Rattle.std.specs.Prelude.{Contains, slice_index_or, not}
 use Rattle.std.specs.List.{list_all, list_any}
 use mathlib.Core.Bool.{beq}
-use Rattle.std.proofs.lemmas.Bool.{cases_lt, false≢true, lt-ltb, ltb-true}
+use Rattle.std.proofs.lemmas.Bool.{cases_lt, false≢true, lt-ltb}
 use Rattle.std.proofs.lemmas.List.{get_or-map, length-map, map-append, take_more}
-use Rattle.pf_calls.specs.Graph.{Graph}
-use Rattle.pf_calls.specs.GraphLaws.{in_cons, is_within, later_in, none_in, now_in, within_inside}
-use Rattle.pf_calls.specs.Numbered.{IsDepth, IsDepthOf, IsInside, IsOver, IsRound, next_round, numbered}
+use Rattle.pf_calls.specs.GraphLaws.{is_within, later_in, now_in, within_inside}
+use Rattle.pf_calls.specs.Numbered.{IsDepth, IsInside, IsOver, IsRound, next_round, numbered}
 
 same_tests : {X : Type 0} (p q : X → Bool) (xs : List X) → ((x : X) → Contains xs x → p x ≡ q x) → list_all p xs ≡ list_all q xs
 same_tests p q [] h = refl
@@ -20,9 +19,9 @@ pub round_more : (links : List (List ℕ)) (rank : ℕ) (within : List Bool) →
 round_more links rank within inside round = record {
   long = length-map links (list_all (λ place. slice_index_or within place false));
   each = λ i lt.
-    get_or-map (list_all (λ place. slice_index_or within place false)) links i [] false lt
-    ∙ same_tests (λ place. slice_index_or within place false) (is_within (numbered links) rank) (slice_index_or links i []) (λ j within_j. round.each j (inside.below i j within_j))
-    ∙ sym (rw add-one (within_inside (numbered links) rank i (lt-ltb i (length links) lt)));
+      get_or-map (list_all (λ place. slice_index_or within place false)) links i [] false lt
+      ∙ same_tests (λ place. slice_index_or within place false) (is_within (numbered links) rank) (slice_index_or links i []) (λ j within_j. round.each j (inside.below i j within_j))
+      ∙ sym (rw add-one (within_inside (numbered links) rank i (lt-ltb i (length links) lt)));
 }
 
 -- a round in which all are within

@@ -1,15 +1,15 @@
 -- A search along links finds what the start reaches.
-use Rattle.std.proofs.Common.{◌≡◌, ℕ, zero, suc, ◌+◌, ◌<◌, ◌≤◌, ◌⊎◌, Bool, true, false, List, [], ◌∷◌, ◌++◌, length, length-append, refl, sym, ap, ◌∙◌, subst, inl, inr, arith, cond, replicate}
-use Rattle.std.specs.Prelude.{Contains, not, count_by, slice_index_or, slice_set}
+use Rattle.std.proofs.Common.{◌≡◌, ℕ, zero, suc, ◌+◌, ◌<◌, ◌⊎◌, Bool, true, false, List, [], ◌∷◌, ◌++◌, length, length-append, refl, sym, ap, ◌∙◌, subst, inl, inr, arith, cond, replicate}
+use Rattle.std.specs.Prelude.{Contains, not, slice_index_or, slice_set}
 use Rattle.std.specs.Bool.{Decides}
-use Rattle.std.proofs.lemmas.Bool.{false≢true, lt-ltb, ltb-true}
+use Rattle.std.proofs.lemmas.Bool.{false≢true, lt-ltb}
 use Rattle.std.proofs.lemmas.List.Sums.{sum_by-set}
 use Rattle.std.proofs.lemmas.List.{get_or_default, get_or-set_same, length-set}
 use Rattle.std.proofs.lemmas.List.Elements.{Contains-append_left, Contains-append_right, Contains-append_cases}
-use Rattle.pf_calls.specs.Graph.{Graph, IsStep, LeadsOver, OnCycle}
+use Rattle.pf_calls.specs.Graph.{IsStep, LeadsOver, OnCycle}
 use Rattle.pf_calls.specs.GraphLaws.{in_cons, now_in, none_in}
 use Rattle.pf_calls.specs.Numbered.{IsInside, numbered}
-use Rattle.pf_calls.specs.Search.{AreBelow, AreSeen, IsMarked, IsReached, IsSearch, is_seen, unseen}
+use Rattle.pf_calls.specs.Search.{AreBelow, AreSeen, IsMarked, IsSearch, is_seen, unseen}
 
 -- a place to which a place leads that the start reaches, or the start itself
 reached_from : (links : List (List ℕ)) (start a : ℕ) (n : ℕ) → LeadsOver (numbered links) n start a → a < length links → (j : ℕ) → Contains (slice_index_or links a []) j → LeadsOver (numbered links) (suc n) start j
@@ -136,10 +136,10 @@ mark_new seen todo places seen' todo' place mark inside none = record {
     | inr last ↦ inr (Contains-append_right places (place ∷ []) j last)
   ];
   fewer = (
-    let one = one_fewer seen' place inside none in
-    let more = length-append todo' (place ∷ []) in
-    let before = mark.fewer in
-    omega arith);
+      let one = one_fewer seen' place inside none in
+      let more = length-append todo' (place ∷ []) in
+      let before = mark.fewer in
+      omega arith);
 }
 
 pub among : (places : List ℕ) (i : ℕ) → i < length places → Contains places (slice_index_or places i 0)

@@ -3,7 +3,6 @@ use Rattle.std.specs.Prelude.{◌≡◌, ℕ, ◌<◌, ◌⊎◌, false, List, [
 use Rattle.pf_base.specs.Path.{is_reserved}
 use Rattle.pf_calls.specs.declared.row.CallRow.{CallRow}
 use Rattle.pf_calls.specs.Calls.{graph_of}
-use Rattle.pf_calls.specs.Graph.{Graph}
 use Rattle.pf_calls.specs.Numbered.{path_at}
 
 -- a path is a child of another that a wildcard leads to

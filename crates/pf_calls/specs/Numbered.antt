@@ -1,11 +1,11 @@
 -- The rows by their places, and the places to which their calls lead.
-use Rattle.std.specs.Prelude.{◌≡◌, ℕ, ◌<◌, Bool, true, false, List, [], ◌∷◌, length, map, Contains, Option, Some, None, nat_lt, slice_index_or}
+use Rattle.std.specs.Prelude.{◌≡◌, ℕ, ◌<◌, Bool, true, false, List, [], length, map, Contains, Option, Some, None, nat_lt, slice_index_or}
 use Rattle.std.specs.List.{list_all}
 use Rattle.pf_calls.specs.declared.row.CallRow.{CallRow}
 use Rattle.pf_calls.specs.declared.row.CallFault.{CallFault}
 use Rattle.pf_calls.specs.declared.row.CallFault.TheVariants.{Cycle, Deep}
 use Rattle.pf_tree.specs.Order.{path_cmp}
-use Rattle.pf_calls.specs.Graph.{Graph, IsStep, IsShallow, IsDeep, IsFirstOnCycle, LeadsOver}
+use Rattle.pf_calls.specs.Graph.{Graph, IsStep, IsShallow, IsDeep, IsFirstOnCycle}
 use Rattle.pf_calls.specs.GraphLaws.{is_within}
 use Rattle.pf_calls.specs.Calls.{graph_of, paths_of}
 

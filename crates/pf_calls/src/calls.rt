@@ -19,11 +19,7 @@ use std::alloc::Global;
 pub const MOST_CALLS: usize = 64;
 
 // The first path on a cycle, where some place has no rank.
-fn first_on_cycle(
-    alloc: Global,
-    rows: &[CallRow],
-    links: &[List<usize>],
-) -> Result<Path, NoMemory>
+fn first_on_cycle(alloc: Global, rows: &[CallRow], links: &[List<usize>]) -> Result<Path, NoMemory>
     requires sorted { IsStrictlySortedBy path_cmp (paths_of rows.now) }
     requires copy { IsCopy (numbered links.now) (graph_of rows.now) (path_at rows.now) }
     requires inside { IsInside links.now }
@@ -67,8 +63,8 @@ pub fn call_fault(alloc: Global, rows: &[CallRow]) -> Result<Option<CallFault>, 
     find_fault(alloc, rows)
 }
 
-/// A law of call graphs: two rankings are one, and where there is no cycle there is one.
-pub fn ranks_are_unique()
-    ensures unique { (paths : Items (Items (Items ℕ))) (calls : Items (Items ℕ) → Items AnyCall) (r s : Items (Items ℕ) → ℕ) → IsRanking (call_graph paths calls) r → IsRanking (call_graph paths calls) s → (path : Items (Items ℕ)) → r path ≡ s path }
+/// A law of call graphs: where there is no cycle the paths have ranks, and nothing else is a ranking.
+pub fn acyclic_calls_have_ranks()
     ensures found { (paths : Items (Items (Items ℕ))) (calls : Items (Items ℕ) → Items AnyCall) → ((path : Items (Items ℕ)) → OnCycle (call_graph paths calls) path → ⊥) → (rank : Items (Items ℕ) → ℕ) × IsRanking (call_graph paths calls) rank }
+    ensures unique { (paths : Items (Items (Items ℕ))) (calls : Items (Items ℕ) → Items AnyCall) (r s : Items (Items ℕ) → ℕ) → IsRanking (call_graph paths calls) r → IsRanking (call_graph paths calls) s → (path : Items (Items ℕ)) → r path ≡ s path }
 {}

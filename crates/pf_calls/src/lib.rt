@@ -9,5 +9,8 @@ mod ranks;
 pub mod row;
 mod search;
 
-pub use calls::{MOST_CALLS, call_fault, ranks_are_unique};
-pub use row::{CallFault, CallRow};
+pub use calls::{MOST_CALLS, acyclic_calls_have_ranks, call_fault};
+pub use row::{CallFault, CallRow, paths_ascend};
+
+#[cfg(test)]
+mod tests;

@@ -19,11 +19,7 @@ fn are_within(places: &[usize], within: &[bool]) -> bool
 }
 
 // The places whose rank is within one more: those that lead to places within the bound alone.
-fn round(
-    alloc: Global,
-    links: &[List<usize>],
-    within: &[bool],
-) -> Result<Vec<bool>, NoMemory>
+fn round(alloc: Global, links: &[List<usize>], within: &[bool]) -> Result<Vec<bool>, NoMemory>
     ensures { IfOk result (λ next. next.items ≡ next_round links.now within.now) }
 {
     let mut next = Vec::new(alloc);

@@ -1,4 +1,4 @@
-use Rattle.std.proofs.Common.{◌≡◌, Result, Ok, Err, IfOk}
+use Rattle.std.proofs.Common.{Result, Ok, Err, IfOk}
 use Rattle.pf_calls.proofs.Answered.{told_cycle, told_deep, told_none}
 use Rattle.pf_calls.proofs.calls.call_fault.Goals as goal
 

@@ -1,4 +1,4 @@
-use Rattle.std.proofs.Common.{◌≡◌, Some, List, ℕ, subst, sym, ap, ◌∙◌}
+use Rattle.std.proofs.Common.{Some, subst}
 use Rattle.pf_calls.specs.Numbered.{IsDepthOf}
 use Rattle.pf_calls.proofs.Answered.{deep, shallow}
 use Rattle.pf_calls.proofs.calls.find_fault.Goals as goal

@@ -1,4 +1,4 @@
-use Rattle.std.proofs.Common.{◌≡◌, ◌+◌, ◌<◌, List, ℕ, true, false, subst, sym, ap, ◌∙◌, arith, length, inl, inr}
+use Rattle.std.proofs.Common.{subst, sym, ◌∙◌, arith, inl, inr}
 use Rattle.std.proofs.lemmas.Bool.{false≢true}
 use Rattle.pf_tree.specs.Order.{path_cmp}
 use Rattle.pf_calls.specs.Graph.{IsFirstOnCycle, OnCycle}

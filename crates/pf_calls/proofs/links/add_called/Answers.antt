@@ -1,4 +1,4 @@
-use Rattle.std.proofs.Common.{[], ◌∷◌, subst, sym, ◌∙◌}
+use Rattle.std.proofs.Common.{subst, sym}
 use Rattle.pf_calls.specs.Calls.{called, paths_of}
 use Rattle.pf_calls.specs.Links.{Reaches}
 use Rattle.pf_calls.proofs.Placed.{one_place}

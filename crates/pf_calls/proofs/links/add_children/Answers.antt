@@ -1,4 +1,4 @@
-use Rattle.std.proofs.Common.{◌≡◌, ◌+◌, subst, sym, ◌∙◌, arith}
+use Rattle.std.proofs.Common.{◌+◌, subst, sym, ◌∙◌, arith}
 use Rattle.std.proofs.lemmas.Bool.{false≢true}
 use Rattle.pf_calls.specs.Links.{IsChild}
 use Rattle.pf_calls.proofs.Placed.{path_here}

@@ -1,4 +1,4 @@
-use Rattle.std.proofs.Common.{◌≡◌, true, false, Decides, not, subst, sym, ◌∙◌}
+use Rattle.std.proofs.Common.{Decides, not, subst, sym, ◌∙◌}
 use Rattle.std.proofs.lemmas.Bool.{false≢true}
 use Rattle.pf_calls.specs.Links.{IsChild}
 use Rattle.pf_calls.proofs.Children.{told_apart, told_named}

@@ -1,4 +1,4 @@
-use Rattle.std.proofs.Common.{◌≡◌, ◌+◌, ◌≤◌, ℕ, subst, sym, arith, length}
+use Rattle.std.proofs.Common.{◌≡◌, ◌+◌, ℕ, subst, sym, arith, length}
 use Rattle.pf_calls.specs.Links.{IsLinked}
 use Rattle.pf_calls.proofs.Linked.{links_copy, links_inside, links_more}
 use Rattle.pf_calls.proofs.links.links.Goals as goal

@@ -1,4 +1,4 @@
-use Rattle.std.proofs.Common.{rules, subst, sym, ◌∙◌, refl}
+use Rattle.std.proofs.Common.{rules, subst, sym}
 use Rattle.std.proofs.lemmas.Fn.{always_returns_same}
 use Rattle.pf_tree.specs.Order.{path_cmp}
 use Rattle.pf_calls.specs.declared.row.CallRow.{CallRow}

@@ -1,8 +1,8 @@
-use Rattle.std.proofs.Common.{◌≡◌, ◌+◌, true, false, not, subst, sym, ap, ◌∙◌}
+use Rattle.std.proofs.Common.{◌+◌, false, subst, sym, ap, ◌∙◌}
 use Rattle.std.specs.List.{list_any}
 use mathlib.Core.Bool.{beq}
 use Rattle.pf_calls.specs.Numbered.{IsRound, next_round}
-use Rattle.pf_calls.proofs.Rounds.{depth_found, over_more, over_zero, round_begun, round_more}
+use Rattle.pf_calls.proofs.Rounds.{depth_found, over_more, round_more}
 use Rattle.pf_calls.proofs.ranks.depth.Goals as goal
 
 pub returns-then-not-contains : goal.returns-then-not-contains

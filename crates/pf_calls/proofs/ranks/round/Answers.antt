@@ -1,8 +1,4 @@
-use Rattle.std.proofs.Common.{◌≡◌, ◌+◌, ◌++◌, ◌∷◌, [], false, ap, sym, ◌∙◌, take}
-use Rattle.std.specs.Prelude.{map, slice_index_or}
-use Rattle.std.specs.List.{list_all}
-use Rattle.std.proofs.lemmas.List.{map-append, take_more}
-use Rattle.pf_calls.specs.Numbered.{next_round}
+use Rattle.std.proofs.Common.{◌∙◌}
 use Rattle.pf_calls.proofs.Rounds.{round_next}
 use Rattle.pf_calls.proofs.ranks.round.Goals as goal
 

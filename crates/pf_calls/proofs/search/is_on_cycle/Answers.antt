@@ -1,9 +1,9 @@
-use Rattle.std.proofs.Common.{◌≡◌, ◌+◌, ◌<◌, ◌++◌, ◌∷◌, [], List, ℕ, Bool, true, false, not, subst, sym, ap, ◌∙◌, arith, refl, length, rules, replicate, Decides}
-use Rattle.std.specs.Prelude.{Contains, slice_index_or}
+use Rattle.std.proofs.Common.{◌≡◌, ◌<◌, [], List, ℕ, Bool, false, subst, sym, ap, ◌∙◌, arith, length, rules, Decides}
+use Rattle.std.specs.Prelude.{slice_index_or}
 use Rattle.std.proofs.lemmas.List.{get_or_default}
 use Rattle.pf_calls.specs.Graph.{OnCycle}
 use Rattle.pf_calls.specs.Numbered.{numbered}
-use Rattle.pf_calls.specs.Search.{IsMarked, IsSearch, is_seen}
+use Rattle.pf_calls.specs.Search.{IsMarked, IsSearch}
 use Rattle.pf_calls.proofs.Searched.{led_below, led_from, no_items, none_seen, search_begun, search_ended, search_more, todo_inside}
 use Rattle.pf_calls.proofs.search.is_on_cycle.Goals as goal
 

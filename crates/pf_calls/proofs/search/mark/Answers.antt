@@ -1,7 +1,6 @@
-use Rattle.std.proofs.Common.{◌≡◌, ◌+◌, ◌<◌, ◌++◌, ◌∷◌, [], true, false, not, subst, sym, ap, ◌∙◌, arith, take, refl, length, ℕ, Bool, Vec, Global}
-use Rattle.std.specs.Prelude.{Contains, slice_index_or, slice_set}
+use Rattle.std.proofs.Common.{◌≡◌, ◌+◌, ◌<◌, ◌++◌, ◌∷◌, [], true, false, sym, ap, ◌∙◌, arith, take, length, ℕ, Bool, Vec, Global}
+use Rattle.std.specs.Prelude.{slice_index_or, slice_set}
 use Rattle.std.proofs.lemmas.List.{get_or_default, take_more}
-use Rattle.pf_calls.specs.Search.{IsMarked}
 use Rattle.pf_calls.proofs.Searched.{among, mark_new, mark_seen, marked_is}
 use Rattle.pf_calls.proofs.search.mark.Goals as goal
 use Rattle.pf_calls.proofs.search.mark.Goals.{then-not-index+in_ok-push, else-not-index}

@@ -1,7 +1,7 @@
 use Rattle.pf_calls.specs.Calls.{call_graph, path_eq}
 use Rattle.pf_calls.specs.GraphLaws.{no_cycle_ranked, rank_unique}
 use Rattle.pf_calls.proofs.Linked.{paths_listed, paths_decide, paths_equivalent}
-use Rattle.pf_calls.proofs.calls.ranks_are_unique.Goals as goal
+use Rattle.pf_calls.proofs.calls.acyclic_calls_have_ranks.Goals as goal
 
 pub returns-clause-unique : goal.returns-clause-unique
 returns-clause-unique c = λ paths calls r s first second path. rank_unique (call_graph paths calls) r s first second path
