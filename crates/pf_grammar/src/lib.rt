@@ -13,6 +13,7 @@ pub mod statement;
 
 pub use forms::{FormRead, parse_rule, read_draft, read_form, tokens_have_one_form};
 pub use pf_form::{Draft, FlagsForm, Head, RuleForm};
+pub use pf_syntax::{FormFault, form_fault};
 
 #[cfg(test)]
 mod tests;
