@@ -1,5 +1,5 @@
 -- Flags of a rule (pf.conf(5), GRAMMAR, `flags`).
-use Rattle.std.specs.Prelude.{ℕ, Bool, ◌&&◌, not, is_some, List, [], codes}
+use Rattle.std.specs.Prelude.{ℕ, Bool, false, ◌&&◌, not, is_some, List, [], codes}
 use Rattle.std.specs.List.{list_all}
 use Rattle.pf_ops.specs.Words.{bit_of, bits_of}
 use Rattle.pf_syntax.specs.Grammar.{Grammar, ◌>>=◌, give, sign, on_word, where_next}

@@ -7,6 +7,7 @@ ghost use Rattle.pf_syntax.specs.Words.{meaning_in};
 ghost use Rattle.pf_syntax.specs.Taking.{Takes};
 
 use crate::keyword::{ScrubWord, SetWord};
+use pf_base::Name;
 use pf_base::text::decimal;
 use pf_parts::{Prios, Queues, Scrub};
 use pf_syntax::keyword::{Key, find_key, take_key};
@@ -228,6 +229,8 @@ impl Lay<ReadSet> for SetParts {
 fn take_set_in_brackets(cursor: &mut Cursor, before: ReadSet) -> Result<ReadSet, Stop>
     ensures { Takes (in_brackets set_part before) cursor.old result cursor.new }
 {
+    // The types within a set, which the proof of the call must know.
+    let _types: (Option<Queues>, Option<Prios>, Option<Name>) = (None, None, None);
     take_in_brackets(&SetParts, cursor, before)
 }
 
