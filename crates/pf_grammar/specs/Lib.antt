@@ -1,0 +1,5 @@
+pub mod Heads
+pub mod Options
+pub mod Statements
+pub mod Late
+pub mod Forms
