@@ -1,0 +1,3 @@
+mod DeclLemmas
+mod WordLemmas
+mod CheckLemmas

@@ -1,0 +1,13 @@
+pub mod Symbols
+pub mod Productions
+pub mod Readings
+pub mod Exactness
+pub mod Grammar
+pub mod Words
+pub mod Lists
+pub mod Hosts
+pub mod Operators
+pub mod Fault
+pub mod Taking
+pub mod KeyTable
+pub mod LeftOut
