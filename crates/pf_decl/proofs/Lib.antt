@@ -1,3 +1,7 @@
 mod DeclLemmas
 mod WordLemmas
 mod CheckLemmas
+mod Spelling
+mod Tokenwise
+mod ReadingBack
+mod Examples

@@ -1,14 +1,16 @@
 //! Whether the queues of a load fit together (pf.conf(5), QUEUEING).
-ghost use Rattle.std.specs.Prelude.{◌≡◌, Bool, List, MatchOption, Result};
+ghost use Rattle.std.specs.Prelude.{◌≡◌, List, MatchOption, Result};
 ghost use Rattle.pf_decl.specs.Checks as says;
 ghost use Rattle.pf_decl.specs.Checks.{HoldsOfNone, IsFirst, Judged};
+ghost use Rattle.pf_decl.specs.declared.check.QueueFault.{QueueFault as AnyFault};
+ghost use Rattle.pf_decl.specs.declared.check.UsedQueue.{UsedQueue as AnyUse};
 ghost use Rattle.pf_decl.specs.declared.form.Queue.{Queue as AnyQueue};
 
 use crate::form::Queue;
 use pf_base::{FaultKind, Name, Place};
 
 /// A queue that a rule names, and where.
-#[derive(Clone, Copy, Debug)]
+#[derive(Clone, Copy)]
 pub struct UsedQueue {
     pub name: Name,
     pub place: Place,
@@ -132,3 +134,8 @@ pub fn check_queues(queues: &[Queue], used: &[UsedQueue]) -> Result<(), QueueFau
     }
     Ok(())
 }
+
+/// A law: queues and their uses are judged in one way alone.
+pub fn queues_are_judged_once()
+    ensures { (queues : List AnyQueue) (used : List AnyUse) (one two : Result (Unit {0}) AnyFault) → Judged queues used one → Judged queues used two → one ≡ two }
+{}

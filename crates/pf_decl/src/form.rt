@@ -36,7 +36,7 @@ pub enum Setting {
 }
 
 /// A setting with one member, as it is written (pf.conf(5), OPTIONS).
-#[derive(Clone, Copy, Debug)]
+#[derive(Clone, Copy)]
 pub enum SetForm {
     /// `skip on`
     Skip(Name),
@@ -102,7 +102,7 @@ pub struct Queue {
 }
 
 /// How much a queue may send.
-#[derive(Clone, Copy, Debug, PartialEq, Eq)]
+#[derive(Clone, Copy, Debug)]
 pub struct Bandwidth {
     /// Bits per second.
     pub rate: u64,
@@ -110,7 +110,7 @@ pub struct Bandwidth {
 }
 
 /// How much a queue may send at first.
-#[derive(Clone, Copy, Debug, PartialEq, Eq)]
+#[derive(Clone, Copy, Debug)]
 pub struct Burst {
     /// Bits per second.
     pub rate: u64,

@@ -1,7 +1,7 @@
 //! The keywords that tell productions apart (pf.conf(5), GRAMMAR).
 
 /// The first word of a declaration.
-#[derive(Clone, Copy, Debug, PartialEq, Eq)]
+#[derive(Clone, Copy)]
 pub enum DeclWord {
     Set,
     Table,
@@ -9,7 +9,7 @@ pub enum DeclWord {
 }
 
 /// The first word of a setting.
-#[derive(Clone, Copy, Debug, PartialEq, Eq)]
+#[derive(Clone, Copy)]
 pub enum SetWord {
     Skip,
     BlockPolicy,
@@ -25,7 +25,7 @@ pub enum SetWord {
 }
 
 /// The first word of a part of a table.
-#[derive(Clone, Copy, Debug, PartialEq, Eq)]
+#[derive(Clone, Copy)]
 pub enum TableWord {
     Persist,
     Const,
@@ -34,7 +34,7 @@ pub enum TableWord {
 }
 
 /// The first word of a part of a queue.
-#[derive(Clone, Copy, Debug, PartialEq, Eq)]
+#[derive(Clone, Copy)]
 pub enum QueueWord {
     On,
     Parent,

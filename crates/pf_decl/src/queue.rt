@@ -121,7 +121,7 @@ fn take_queue_part(cursor: &mut Cursor, before: Queue) -> Result<Queue, Stop>
 }
 
 // A queue of which parts are still to be read. Clauses see the queue.
-#[derive(Debug, Drop)]
+#[derive(Drop)]
 struct Draft {
     queue: Queue,
 }
