@@ -5,3 +5,4 @@ mod Spelling
 mod Tokenwise
 mod ReadingBack
 mod Examples
+mod MadeSettings

@@ -49,6 +49,13 @@ is_made (Reassemble fragments no_df) = true
 is_made (LogInterface name) = is_file_name name
 is_made (Fingerprints name) = is_file_name name
 
+-- a token that a file can have
+abbrev pub is_file_token : Token → Bool
+is_file_token token = list_all is_string_byte token.text
+
+abbrev pub are_file_tokens : List Token → Bool
+are_file_tokens = list_all is_file_token
+
 -- the text, at this place of a file, has these tokens, and they declare this
 pub record ReadsAs (values : List ℕ → Option (List ℕ)) (place : Place) (text : List ℕ) (decl : Decl) : Type 0 where
   pub tokens : List Token
