@@ -1,0 +1,8 @@
+mod DeclLemmas
+mod WordLemmas
+mod CheckLemmas
+mod Spelling
+mod Tokenwise
+mod ReadingBack
+mod Examples
+mod MadeSettings
