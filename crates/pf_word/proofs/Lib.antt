@@ -1,0 +1,4 @@
+pub mod Readings
+pub mod Adding
+pub mod OneMeaning
+pub mod Examples

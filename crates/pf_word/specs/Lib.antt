@@ -1,0 +1,9 @@
+pub mod Words
+pub mod Suffixes
+pub mod Hosts
+pub mod Numbers
+pub mod Kinds
+pub mod Targets
+pub mod Tables
+pub mod Coming
+pub mod Conditions
