@@ -1,0 +1,6 @@
+pub mod Follows
+pub mod Fields
+pub mod Covering
+pub mod Tops
+pub mod Keeping
+pub mod Giving

@@ -1,0 +1,9 @@
+use Rattle.std.proofs.Common.{◌≡◌, ◌++◌, map, not, drop}
+use Rattle.std.specs.List.{enumerate_from, filter}
+use Rattle.pf_cover.specs.Kept.{is_dropped, kept_places}
+use Rattle.pf_cover.proofs.kept.keep.Given as goal
+
+abbrev pub invariant-loop-i : goal.invariant-loop-i
+invariant-loop-i l =
+    l.places ++ map (λ rule. rule.0) (filter (λ rule. not (is_dropped l.rules rule)) (enumerate_from l.i (drop l.i l.rules)))
+    ≡ kept_places l.rules

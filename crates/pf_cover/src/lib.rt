@@ -1,0 +1,19 @@
+//! Which rules of a block are covered by others of it, so that they can go (pf.conf(5), "set ruleset-optimization").
+//! It stands on the rules of pf_rule and compares their criteria one by one. The layer above drops what isn't kept,
+//! and uses the laws that a covering rule matches all that the covered one does, and that the kept rules of a block
+//! match together what all of them match.
+#![tactic(auto)]
+
+mod cover;
+mod kept;
+pub mod laws;
+
+pub use cover::covers;
+pub use kept::{Kept, keep, keep_weighed};
+pub use laws::{
+    covering_rules_match_more, kept_rules_are_of_the_block, kept_rules_match_together,
+    weights_go_to_kept_rules,
+};
+
+#[cfg(test)]
+mod tests;
