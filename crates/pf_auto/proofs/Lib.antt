@@ -1,0 +1,10 @@
+mod Examples
+mod Leading
+mod Weighing
+mod Mates
+mod Tables
+mod Hits
+mod Kept
+mod Both
+mod Gathering
+mod Putting
