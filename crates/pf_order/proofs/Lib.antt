@@ -1,0 +1,9 @@
+pub mod Blocking
+pub mod Gaining
+pub mod Stable
+pub mod Places
+pub mod Sums
+pub mod Runs
+pub mod Least
+pub mod Distinct
+pub mod Ranks
