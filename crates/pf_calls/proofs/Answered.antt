@@ -17,7 +17,8 @@ use Rattle.pf_calls.specs.GraphLaws.{is_within, no_cycle_within, rank_by, rank_u
 use Rattle.pf_calls.specs.Calls.{graph_of, path_eq, paths_of}
 use Rattle.pf_calls.specs.Numbered.{IsCopy, IsDepth, IsFault, IsOver, numbered, path_at}
 use Rattle.pf_calls.proofs.Copied.{all_within, cycle_back, cycle_forth, within_back}
-use Rattle.pf_calls.proofs.Linked.{is_row, paths_decide, paths_equivalent}
+use Rattle.pf_calls.specs.CallLaws.{paths_decide}
+use Rattle.pf_calls.proofs.Linked.{is_row, paths_equivalent}
 use Rattle.pf_calls.proofs.Placed.{ascending, as_many, three}
 
 module _ (rows : List CallRow) (links : List (List ℕ)) (copy : IsCopy (numbered links) (graph_of rows) (path_at rows)) where

@@ -1,5 +1,5 @@
 -- Children that a wildcard leads to.
-use Rattle.std.proofs.Common.{◌≡◌, ℕ, Bool, true, false, List, [], ◌∷◌, ◌++◌, Option, Some, None, refl, sym, ap, ◌∙◌, subst, if◌then◌else◌, inl, inr, arith, length, length-append, not, Decides}
+use Rattle.std.proofs.Common.{◌≡◌, ℕ, Bool, true, false, List, [], ◌∷◌, ◌++◌, Option, Some, None, refl, sym, ap, ◌∙◌, if◌then◌else◌, inl, inr, arith, length, length-append, not, Decides}
 use Rattle.std.specs.Prelude.{Contains}
 use Rattle.std.specs.List.{cons_option, filter_map}
 use Rattle.std.specs.Option.{option_and_then}
@@ -9,6 +9,7 @@ use Rattle.std.proofs.lemmas.Slice.Eq.{bytes_eq-Decides}
 use Rattle.pf_base.specs.Path.{is_reserved}
 use Rattle.pf_tree.specs.Paths.{name_behind}
 use Rattle.pf_calls.specs.Calls.{child_on, children_of, named_below}
+use Rattle.pf_calls.specs.CallLaws.{gives}
 use Rattle.pf_calls.specs.GraphLaws.{in_cons, now_in, later_in, none_in}
 use Rattle.pf_calls.specs.Links.{IsChild}
 
@@ -57,21 +58,6 @@ module _ {X Y : Type 0} (f : X → Option Y) where
           | inr later ↦ given_later x xs y (given_by xs y later)
         ]
       ] refl within
-
-  behind : (o : Option Y) (ys : List Y) (y : Y) → Contains ys y → Contains (cons_option o ys) y
-  behind None ys y within = within
-  behind (Some z) ys y within = later_in z ys y within
-
-  first : (o : Option Y) (ys : List Y) (y : Y) → o ≡ Some y → Contains (cons_option o ys) y
-  first o ys y e = subst (λ (o : Option Y). Contains (cons_option o ys) y) (sym e) (now_in y ys)
-
-  pub gives : (xs : List X) (x : X) (y : Y) → Contains xs x → f x ≡ Some y → Contains (filter_map f xs) y
-  gives [] x y within e = absurd (none_in x within)
-  gives (z ∷ xs) x y within e =
-      elim (in_cons z xs x within) [
-        | inl same ↦ first (f z) (filter_map f xs) y (ap f same ∙ e)
-        | inr later ↦ behind (f z) (filter_map f xs) y (gives xs x y later e)
-      ]
 
 front_same : {A : Type 0} (xs ys : List A) (x y : A) → xs ++ x ∷ [] ≡ ys ++ y ∷ [] → xs ≡ ys
 front_same [] [] x y e = refl

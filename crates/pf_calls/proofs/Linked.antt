@@ -2,12 +2,10 @@
 use Rattle.std.proofs.Common.{◌≡◌, ℕ, zero, suc, ◌+◌, ◌<◌, true, false, List, [], ◌∷◌, ◌++◌, length, length-append, refl, sym, ap, ◌∙◌, subst, inl, inr, arith, if◌then◌else◌}
 use Rattle.std.specs.Prelude.{Contains, slice_index_or, nat_lt}
 use Rattle.std.specs.List.{flat_map}
-use Rattle.std.specs.Bool.{Decides}
 use Rattle.std.specs.Cmp.{IsEquivalence}
-use Rattle.std.specs.Cmp.Lexicographic.{lists_equiv, nat_list_eq_equiv, pointwise_decides}
+use Rattle.std.specs.Cmp.Lexicographic.{lists_equiv, nat_list_eq_equiv}
 use Rattle.std.specs.List.Sorted.{IsStrictlySortedBy}
 use Rattle.std.proofs.lemmas.Map.Made.{is_member-Decides}
-use Rattle.std.proofs.lemmas.Slice.Eq.{bytes_eq-Decides}
 use Rattle.std.proofs.lemmas.Bool.{cases_lt, ltb-true, lt-ltb}
 use Rattle.std.proofs.Math.ListN.{get_or-append, get_or-eq_default}
 use Rattle.std.proofs.Math.Seq.{get_or-append_seam}
@@ -16,14 +14,12 @@ use Rattle.pf_tree.specs.Order.{path_cmp}
 use Rattle.pf_calls.specs.declared.row.CallRow.{CallRow}
 use Rattle.pf_calls.specs.Graph.{IsListed}
 use Rattle.pf_calls.specs.GraphLaws.{none_in}
+use Rattle.pf_calls.specs.CallLaws.{paths_decide}
 use Rattle.pf_calls.specs.Calls.{call_graph, called, calls_at, graph_of, path_eq, path_of, paths_of}
 use Rattle.pf_calls.specs.Numbered.{IsCopy, IsInside, numbered, path_at}
 use Rattle.pf_calls.specs.Links.{IsLinked, Reaches}
 use Rattle.pf_calls.proofs.Reached.{below_or_here}
 use Rattle.pf_calls.proofs.Placed.{among_paths, one_place, path_here, placed}
-
-pub paths_decide : (p q : List (List ℕ)) → Decides (path_eq p q) (p ≡ q)
-paths_decide = pointwise_decides bytes_eq-Decides
 
 pub paths_equivalent : IsEquivalence path_eq
 paths_equivalent = lists_equiv nat_list_eq_equiv

@@ -4,3 +4,4 @@ pub mod Calls
 pub mod Numbered
 pub mod Links
 pub mod Search
+pub mod CallLaws

@@ -1,6 +1,7 @@
 use Rattle.pf_calls.specs.Calls.{call_graph, path_eq}
 use Rattle.pf_calls.specs.GraphLaws.{no_cycle_ranked, rank_unique}
-use Rattle.pf_calls.proofs.Linked.{paths_listed, paths_decide, paths_equivalent}
+use Rattle.pf_calls.specs.CallLaws.{paths_decide}
+use Rattle.pf_calls.proofs.Linked.{paths_listed, paths_equivalent}
 use Rattle.pf_calls.proofs.calls.acyclic_calls_have_ranks.Goals as goal
 
 pub returns-clause-unique : goal.returns-clause-unique

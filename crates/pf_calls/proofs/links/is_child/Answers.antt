@@ -2,7 +2,7 @@ use Rattle.std.proofs.Common.{Decides, not, subst, sym, ◌∙◌}
 use Rattle.std.proofs.lemmas.Bool.{false≢true}
 use Rattle.pf_calls.specs.Links.{IsChild}
 use Rattle.pf_calls.proofs.Children.{told_apart, told_named}
-use Rattle.pf_calls.proofs.Linked.{paths_decide}
+use Rattle.pf_calls.specs.CallLaws.{paths_decide}
 use Rattle.pf_calls.proofs.links.is_child.Goals as goal
 
 pub returns-then-eq : goal.returns-then-eq
