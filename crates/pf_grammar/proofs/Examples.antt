@@ -1,10 +1,9 @@
 -- Texts of statements, with their forms computed from the grammar.
-use Rattle.std.specs.Prelude.{◌≡◌, ℕ, Bool, true, false, ◌&&◌, not, ◌==◌, ◌-◌, List, [], ◌∷◌, ◌++◌, map, filter, drop, take, length, Option, Some, None, codes, if◌then◌else◌, refl}
+use Rattle.std.specs.Prelude.{◌≡◌, ℕ, Bool, true, false, ◌==◌, ◌-◌, List, [], ◌∷◌, map, take, length, Option, Some, None, codes, if◌then◌else◌, refl}
 use Rattle.std.specs.List.{slice_split, list_any, list_all}
 use Rattle.pf_syntax.specs.Symbols.{Symbol, Symbols, bare, quoted, mark}
 use Rattle.pf_form.specs.declared.form.Draft.{Draft}
 use Rattle.pf_syntax.specs.Words.{name_of}
-use Rattle.pf_syntax.specs.Fault.{timeouts, words_left_out, tos_left_out, is_left_out}
 use Rattle.pf_syntax.specs.Hosts.{table_name, dynamic, address, plain_host, host}
 use Rattle.pf_syntax.specs.Operators.{operator, word_test, sign_test, op, icmp_type, target}
 use Rattle.pf_form.specs.Tests.{direction, iface, ifaces, family, protos, ports, side, hosts}

@@ -1,5 +1,5 @@
 -- What a statement is read as, and what it is refused for.
-use Rattle.std.proofs.Common.{◌≡◌, ℕ, Bool, true, false, List, [], ◌∷◌, Option, Some, None, refl, ap, sym, subst, ◌∙◌}
+use Rattle.std.proofs.Common.{◌≡◌, ℕ, Bool, true, false, List, [], ◌∷◌, Option, Some, None, refl, ap, sym, ◌∙◌}
 use Rattle.std.specs.Prelude.{if◌then◌else◌}
 use Rattle.pf_token.specs.declared.token.Token.{Token}
 use Rattle.pf_syntax.specs.Fault.{fault_of_word, first_left_out, outside_fault}
@@ -8,7 +8,7 @@ use Rattle.pf_syntax.specs.declared.fault.FormFault.{FormFault}
 use Rattle.pf_syntax.specs.declared.fault.FormFault.TheVariants.{Syntax, Unsupported, StateOptions as OptionsFault, AnchorEffect, BadFlags, NoMemory}
 use Rattle.pf_form.specs.declared.form.Draft.{Draft}
 use Rattle.pf_form.specs.declared.form.RuleForm.{RuleForm}
-use Rattle.pf_grammar.specs.Forms.{HasForm, IsDraft, IsLate, IsOutside, RefusesDraft, RefusesForm}
+use Rattle.pf_grammar.specs.Forms.{HasForm, IsDraft, RefusesDraft, RefusesForm}
 use Rattle.pf_grammar.specs.Late.{late_of, has_state_fault, has_anchor_effect}
 use Rattle.pf_grammar.specs.Statements.{statement}
 

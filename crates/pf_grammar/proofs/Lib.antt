@@ -1,2 +1,4 @@
 pub mod FormLemmas
 pub mod Examples
+pub mod Keeping
+pub mod WordsKept

@@ -1,5 +1,5 @@
 -- What the tokens of a statement are read as.
-use Rattle.std.specs.Prelude.{◌≡◌, ℕ, Bool, List, [], Option, Some, None, Result, Ok, Err, ◌⊎◌}
+use Rattle.std.specs.Prelude.{◌≡◌, Bool, List, [], Option, Some}
 use Rattle.pf_token.specs.declared.token.Token.{Token}
 use Rattle.pf_syntax.specs.Fault.{outside_fault}
 use Rattle.pf_syntax.specs.Symbols.{symbols}

@@ -1,14 +1,11 @@
 -- The heads of rules, and the kinds of blocks (pf.conf(5), GRAMMAR, `action`, `return`, `anchor-rule`).
-use Rattle.std.specs.Prelude.{ℕ, Bool, true, false, ◌&&◌, ◌||◌, not, is_some, List, [], ◌∷◌, Option, Some, None, codes, if◌then◌else◌}
-use Rattle.std.specs.List.{list_any}
-use Rattle.std.specs.Str.{bytes_eq}
+use Rattle.std.specs.Prelude.{ℕ, Bool, true, false, not, List, [], ◌∷◌, Option, Some, None, codes}
 use Rattle.pf_parts.specs.declared.block.BlockKind.{BlockKind}
 use Rattle.pf_parts.specs.declared.block.BlockKind.TheVariants as kinds
-use Rattle.pf_syntax.specs.Symbols.{Symbol, Symbols, bare, quoted, mark, line_end, next_is}
+use Rattle.pf_syntax.specs.Symbols.{Symbol, bare, quoted, mark, line_end, next_is}
 use Rattle.pf_syntax.specs.Fault.{is_one_of}
-use Rattle.pf_syntax.specs.Grammar.{Grammar, ◌>>=◌, give, sign, word, on_word, on_sign, where_next}
-use Rattle.pf_syntax.specs.Words.{Keyword, key, keyword, meaning_in, bare_text, name, at_key, number, only_where, perhaps_sign}
-use Rattle.pf_syntax.specs.Lists.{at_sign}
+use Rattle.pf_syntax.specs.Grammar.{Grammar, ◌>>=◌, give, sign, word, on_sign, where_next}
+use Rattle.pf_syntax.specs.Words.{Keyword, key, keyword, name, at_key, number, only_where, perhaps_sign}
 use Rattle.pf_form.specs.declared.form.Head.{Head}
 use Rattle.pf_form.specs.declared.form.Head.TheVariants as heads
 use Rattle.pf_grammar.specs.declared.keyword.HeadWord.{HeadWord}

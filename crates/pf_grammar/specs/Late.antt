@@ -1,6 +1,6 @@
 -- Faults of a form that count behind those of its words: flags that are none, options of a state, and what an anchor rule
 -- can't have (pf.conf(5), STATEFUL FILTERING and ANCHORS).
-use Rattle.std.specs.Prelude.{ℕ, Bool, true, false, ◌&&◌, ◌||◌, not, Option, Some, None, is_some, if◌then◌else◌}
+use Rattle.std.specs.Prelude.{Bool, ◌&&◌, ◌||◌, not, Option, Some, None, is_some, if◌then◌else◌}
 use Rattle.pf_parts.specs.declared.state.StateOptions.{StateOptions}
 use Rattle.pf_syntax.specs.declared.fault.FormFault.{FormFault}
 use Rattle.pf_syntax.specs.declared.fault.FormFault.TheVariants.{BadFlags, StateOptions as OptionsFault, AnchorEffect}

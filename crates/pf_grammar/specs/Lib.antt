@@ -3,3 +3,4 @@ pub mod Options
 pub mod Statements
 pub mod Late
 pub mod Forms
+pub mod Bytes

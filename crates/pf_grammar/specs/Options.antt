@@ -1,14 +1,14 @@
 -- The options of a rule, in any order and each at most once (pf.conf(5), GRAMMAR, `filteropt`).
-use Rattle.std.specs.Prelude.{ℕ, Bool, true, false, ◌&&◌, ◌||◌, not, List, [], ◌∷◌, Option, Some, None, is_none, is_some, codes}
+use Rattle.std.specs.Prelude.{ℕ, Bool, true, false, not, List, [], ◌∷◌, Some, is_none, is_some, codes}
 use Rattle.pf_base.specs.declared.kind.Family.{Family}
 use Rattle.pf_base.specs.declared.kind.Family.TheVariants.{Inet, Inet6}
 use Rattle.pf_parts.specs.declared.matching.TagTest.{TagTest}
 use Rattle.pf_parts.specs.declared.matching.TagTest.TheVariants.{Any, Is}
 use Rattle.pf_parts.specs.declared.state.StateKind.{StateKind}
 use Rattle.pf_parts.specs.declared.state.StateKind.TheVariants as states
-use Rattle.pf_syntax.specs.Grammar.{Grammar, ◌>>=◌, give, sign, word, on_sign, on_word, where_next}
-use Rattle.pf_syntax.specs.Words.{Keyword, key, keyword, any_word, name, only_where}
-use Rattle.pf_syntax.specs.Lists.{at_sign, list_of}
+use Rattle.pf_syntax.specs.Grammar.{Grammar, ◌>>=◌, give, word, on_sign}
+use Rattle.pf_syntax.specs.Words.{Keyword, key, keyword, name, only_where}
+use Rattle.pf_syntax.specs.Lists.{list_of}
 use Rattle.pf_syntax.specs.Operators.{icmp_type, op, target}
 use Rattle.pf_form.specs.declared.form.Draft.{Draft}
 use Rattle.pf_form.specs.declared.setting.ReadSet.{ReadSet}

@@ -1,5 +1,5 @@
 -- Rules, antispoof and load anchor (pf.conf(5), GRAMMAR, `pf-rule`, `antispoof-rule`, `anchor-rule`, `load-anchor`).
-use Rattle.std.specs.Prelude.{ℕ, Bool, true, false, not, List, [], Option, Some, None, map, codes}
+use Rattle.std.specs.Prelude.{ℕ, Bool, true, false, List, Option, Some, None, map, codes}
 use Rattle.pf_parts.specs.declared.matching.IfTest.{IfTest}
 use Rattle.pf_syntax.specs.Symbols.{is_end}
 use Rattle.pf_syntax.specs.Grammar.{Grammar, ◌>>=◌, give, word, on_word, until}
@@ -9,14 +9,13 @@ use Rattle.pf_rule.specs.Opening.{no_params}
 use Rattle.pf_form.specs.declared.form.Draft.{Draft}
 use Rattle.pf_form.specs.declared.form.Head.{Head}
 use Rattle.pf_form.specs.declared.form.Head.TheVariants as heads
-use Rattle.pf_form.specs.declared.form.RuleForm.{RuleForm}
 use Rattle.pf_grammar.specs.declared.keyword.HeadWord.{HeadWord}
 use Rattle.pf_grammar.specs.declared.keyword.HeadWord.TheVariants.{Pass, Match, Block, Anchor, Antispoof, Load}
 use Rattle.pf_form.specs.Blank.{blank, blank_form, with_form}
 use Rattle.pf_grammar.specs.Heads.{anchor_head, block_kind, head_words}
 use Rattle.pf_form.specs.Log.{logged}
 use Rattle.pf_grammar.specs.Options.{option}
-use Rattle.pf_form.specs.Tests.{direction, family, hosts, iface, ifaces, interface, protos}
+use Rattle.pf_form.specs.Tests.{direction, family, hosts, ifaces, interface, protos}
 
 -- `[dir] [logq] [on] [family] [proto] [hosts]`
 unfoldable pub rule_front : Head → Grammar Draft

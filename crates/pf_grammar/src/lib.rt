@@ -10,10 +10,12 @@ pub mod keyword;
 mod late;
 pub mod option;
 pub mod statement;
+mod words;
 
 pub use forms::{FormRead, parse_rule, read_draft, read_form, tokens_have_one_form};
 pub use pf_form::{Draft, FlagsForm, Head, RuleForm};
 pub use pf_syntax::{FormFault, form_fault};
+pub use words::forms_have_words;
 
 #[cfg(test)]
 mod tests;
