@@ -1,8 +1,8 @@
 -- The first item that has a test, given the items before it.
 use Rattle.std.proofs.Common.{◌≡◌, ℕ, ◌+◌, ◌<◌, ◌≤◌, Bool, true, false, List, length, take, Option, Some, None, refl, ap, sym, subst, ◌∙◌, arith, inl, inr}
-use Rattle.std.specs.Prelude.{slice_get, Result, Ok, Err}
+use Rattle.std.specs.Prelude.{slice_get, Result, Err}
 use Rattle.std.proofs.lemmas.Bool.{cases_lt, cases_order}
-use Rattle.std.proofs.lemmas.Option.{slice_get_within, slice_get_read}
+use Rattle.std.proofs.lemmas.Option.{slice_get_within}
 use Rattle.pf_decl.specs.declared.check.QueueFault.{QueueFault}
 use Rattle.pf_decl.specs.declared.check.UsedQueue.{UsedQueue}
 use Rattle.pf_decl.specs.declared.form.Queue.{Queue}

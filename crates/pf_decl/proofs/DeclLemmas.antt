@@ -6,7 +6,7 @@ use Rattle.pf_syntax.specs.Symbols.{Symbols, is_end, symbols}
 use Rattle.pf_syntax.specs.declared.fault.FormFault.{FormFault}
 use Rattle.pf_syntax.specs.declared.fault.FormFault.TheVariants.{Syntax, Unsupported, StateOptions, AnchorEffect, BadFlags, NoMemory}
 use Rattle.pf_decl.specs.declared.form.Decl.{Decl}
-use Rattle.pf_decl.specs.Decls.{declaration, place_of, IsDecl, IsOutside, RefusesDecl}
+use Rattle.pf_decl.specs.Decls.{declaration, place_of, IsDecl, RefusesDecl}
 
 abbrev decl_in : Decl → Option (Decl × Symbols) → Decl
 decl_in other None = other

@@ -1,11 +1,9 @@
 -- Texts of declarations, with what they declare computed from the grammar.
 use Rattle.std.specs.Prelude.{◌≡◌, ℕ, Bool, true, false, ◌-◌, ◌==◌, List, [], ◌∷◌, map, take, length, Option, Some, None, is_some, codes, if◌then◌else◌, refl}
 use Rattle.std.specs.Fmt.{digits}
-use Rattle.std.specs.List.{slice_split, list_any, list_all}
+use Rattle.std.specs.List.{slice_split, list_any}
 use Rattle.pf_base.specs.Decimal.{decimal_of}
 use Rattle.pf_base.specs.declared.fault.Place.{Place}
-use Rattle.pf_base.specs.declared.kind.Level.TheVariants as levels
-use Rattle.pf_parts.specs.declared.block.BlockKind.TheVariants as blocks
 use Rattle.pf_parts.specs.BlockText.{block_text}
 use Rattle.pf_parts.specs.NameText.{is_bare}
 use Rattle.pf_syntax.specs.Fault.{timeouts}
@@ -13,12 +11,10 @@ use Rattle.pf_syntax.specs.Hosts.{table_name}
 use Rattle.pf_syntax.specs.Symbols.{Symbol, Symbols, bare, quoted, mark}
 use Rattle.pf_syntax.specs.Words.{name_of}
 use Rattle.pf_decl.specs.declared.form.Bandwidth.{Bandwidth}
-use Rattle.pf_decl.specs.declared.form.Burst.{Burst}
 use Rattle.pf_decl.specs.declared.form.Decl.{Decl}
 use Rattle.pf_decl.specs.declared.form.Decl.TheVariants.{Set, Table, Queue}
 use Rattle.pf_decl.specs.declared.form.OptionLine.{OptionLine}
 use Rattle.pf_decl.specs.declared.form.Setting.TheVariants as settings
-use Rattle.pf_decl.specs.declared.form.TableForm.{TableForm}
 use Rattle.pf_decl.specs.declared.form.TableItem.{TableItem}
 use Rattle.pf_decl.specs.Bandwidths.{units, rate_of, milliseconds_of, burst, bandwidth}
 use Rattle.pf_decl.specs.Decls.{declaration, decl_words, decl_behind}

@@ -6,3 +6,4 @@ mod Tokenwise
 mod ReadingBack
 mod Examples
 mod MadeSettings
+mod FileTokens

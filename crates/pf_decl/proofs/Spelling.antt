@@ -1,13 +1,11 @@
 -- Words and strings with a space between them, as they are spelled, have themselves as tokens.
-use Rattle.std.proofs.Common.{◌≡◌, ℕ, Bool, true, false, List, [], ◌∷◌, ◌++◌, Option, Some, None, refl, ap, sym, inl, inr, subst, ◌∙◌, arith, append_assoc}
+use Rattle.std.proofs.Common.{◌≡◌, ℕ, Bool, true, false, List, [], ◌∷◌, ◌++◌, Option, Some, refl, ap, inl, inr, subst, ◌∙◌}
 use Rattle.std.proofs.lemmas.Bool.{and_parts, and_right, eqb-true, not-true, cases_Bool}
 use Rattle.std.proofs.lemmas.List.{append-nil}
-use Rattle.std.specs.Prelude.{◌&&◌, ◌||◌, ◌==◌, not, nat_le, map, cond, codes}
-use Rattle.std.specs.List.{list_all, list_any}
+use Rattle.std.specs.Prelude.{◌&&◌, ◌==◌, not, map}
+use Rattle.std.specs.List.{list_all}
 use Rattle.pf_base.specs.declared.fault.Place.{Place}
-use Rattle.pf_parts.specs.NameText as names
-use Rattle.pf_token.specs.declared.byte.ByteClass.{ByteClass}
-use Rattle.pf_token.specs.declared.byte.ByteClass.TheVariants.{Blank, Newline, Sign, Quote, Hash, Dollar, Plain, Bad}
+use Rattle.pf_token.specs.declared.byte.ByteClass.TheVariants.{Plain}
 use Rattle.pf_token.specs.declared.cell.Cell.{Cell}
 use Rattle.pf_syntax.specs.Symbols.{Symbol, bare, quoted, mark, line_end, symbol_of, symbols as symbols_of_tokens}
 use Rattle.pf_token.specs.declared.token.Lexeme.{Lexeme}
@@ -16,7 +14,7 @@ use Rattle.pf_token.specs.declared.token.Token.{Token}
 use Rattle.pf_token.specs.declared.token.TokenKind.TheVariants as kinds
 use Rattle.pf_token.specs.Bytes.{class_of, is_word_byte, is_known}
 use Rattle.pf_token.specs.Cells.{bytes_of, cells_at, cells_from, stops}
-use Rattle.pf_token.specs.Pieces.{Piece, blank, string, word, token, string_of, is_escape, Between, nothing, kept, IsLongestRun, Next, NoMore, Reads}
+use Rattle.pf_token.specs.Pieces.{Piece, blank, string, word, token, string_of, is_escape, Between, nothing, kept, Next, NoMore, Reads}
 
 abbrev pub cell : Place → ℕ → Cell
 cell place byte = record { byte = byte; place = place }

@@ -1,16 +1,16 @@
 -- Which words and names are spelled as one token.
-use Rattle.std.proofs.Common.{◌≡◌, ℕ, ◌+◌, ◌<◌, ◌≤◌, ◌^◌, ◌⊎◌, Bool, true, false, List, [], ◌∷◌, ◌++◌, length, Option, Some, None, refl, ap, sym, subst, ◌∙◌, arith, rules, le-leb, inl, inr, decimal}
+use Rattle.std.proofs.Common.{◌≡◌, ℕ, ◌<◌, ◌≤◌, ◌^◌, Bool, true, false, List, [], ◌∷◌, length, Some, refl, arith, rules, le-leb, decimal}
 use Rattle.std.specs.Prelude.{◌&&◌, ◌||◌, ◌==◌, not, nat_le, codes, if◌then◌else◌}
 use Rattle.std.specs.Char.{is_ascii_digit}
 use Rattle.std.specs.List.{list_all, list_any}
 use Rattle.std.specs.Str.{bytes_eq}
-use Rattle.std.proofs.lemmas.Bool.{agree_below, agree_below_at, and_from, and_parts, not-true, leb-true, cases_Bool}
+use Rattle.std.proofs.lemmas.Bool.{agree_below, agree_below_at, and_from, and_parts, leb-true}
 use Rattle.std.proofs.lemmas.Fmt.{decimal_nonempty, digits_decimal, digits_value-decimal}
 use Rattle.std.proofs.lemmas.Str.Parse.{IsNumeralModel, numerals_by_fold}
 use Rattle.pf_base.specs.Decimal.{digits_after, decimal_of}
 use Rattle.pf_base.specs.Text.{is_nothing}
 use Rattle.pf_parts.specs.NameText as names
-use Rattle.pf_syntax.specs.Symbols.{Symbol, bare, quoted}
+use Rattle.pf_syntax.specs.Symbols.{bare, quoted}
 use Rattle.pf_syntax.specs.Words.{is_name, is_name_byte}
 use Rattle.pf_token.specs.declared.byte.ByteClass.{ByteClass}
 use Rattle.pf_token.specs.declared.byte.ByteClass.TheVariants.{Blank, Newline, Sign, Quote, Hash, Dollar, Plain, Bad}
@@ -51,8 +51,8 @@ in_table test other byte each below is = implied (test byte) (other byte) (agree
 
 below_127 : (byte : ℕ) → names.is_word_byte byte ≡ true → byte < 127
 below_127 byte e =
-    let p = and_parts _ _ e in
-    let q = and_parts _ _ p.0 in
+    let p = and_parts (nat_le 33 byte && nat_le byte 126) (not (list_any (λ other. byte == other) (34 ∷ 39 ∷ codes "#(){}<>!=/,"))) e in
+    let q = and_parts (nat_le 33 byte) (nat_le byte 126) p.0 in
     let fits : byte ≤ 126 = leb-true byte 126 q.1 in omega arith
 
 abbrev begins_word : ℕ → Bool
@@ -132,9 +132,8 @@ own = numerals_by_fold _ (search rules) digits_after (search rules)
 
 digit_byte : (byte : ℕ) → is_ascii_digit byte ≡ true → begins_word byte ≡ true
 digit_byte byte e =
-    let p = and_parts _ _ e in
-    let fits : byte ≤ 57 = leb-true byte 57 p.1 in
-    in_table is_ascii_digit begins_word byte digit_table (omega arith) e
+    let p = and_parts (nat_le 48 byte) (nat_le byte 57) e in
+    let fits : byte ≤ 57 = leb-true byte 57 p.1 in in_table is_ascii_digit begins_word byte digit_table (omega arith) e
 
 nonempty : (text : List ℕ) → 0 < length text → is_nothing text ≡ false
 nonempty [] h = absurd (omega arith)

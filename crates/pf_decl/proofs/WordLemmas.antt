@@ -1,6 +1,6 @@
 -- What holds of each word of a list holds of one of them.
-use Rattle.std.proofs.Common.{◌≡◌, ℕ, Bool, true, false, List, [], ◌∷◌, length, Option, Some, None, refl, ap, ◌∙◌, inl, inr}
-use Rattle.std.specs.Prelude.{◌||◌, ◌↔◌, IsSome, IfSome, if◌then◌else◌}
+use Rattle.std.proofs.Common.{◌≡◌, ℕ, Bool, true, false, List, [], ◌∷◌, length, Option, Some, None, ap, ◌∙◌, inl, inr}
+use Rattle.std.specs.Prelude.{◌↔◌, IsSome, IfSome}
 use Rattle.std.specs.List.{list_all}
 use Rattle.std.specs.Str.{bytes_eq}
 use Rattle.std.proofs.lemmas.Bool.{and_parts, cases_Bool, leb-true}

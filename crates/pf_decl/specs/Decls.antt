@@ -1,5 +1,5 @@
 -- What the tokens of a statement declare.
-use Rattle.std.specs.Prelude.{◌≡◌, ℕ, Bool, not, List, [], ◌∷◌, Option, codes}
+use Rattle.std.specs.Prelude.{◌≡◌, Bool, not, List, [], ◌∷◌, codes}
 use Rattle.pf_base.specs.declared.fault.Place.{Place}
 use Rattle.pf_token.specs.declared.token.Token.{Token}
 use Rattle.pf_syntax.specs.Fault.{outside_fault}

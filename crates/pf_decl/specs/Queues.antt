@@ -1,5 +1,5 @@
 -- `queue` (pf.conf(5), GRAMMAR, `queue`, and QUEUEING). Each part stands once.
-use Rattle.std.specs.Prelude.{ℕ, Bool, true, false, not, List, [], ◌∷◌, Option, Some, None, is_none, codes}
+use Rattle.std.specs.Prelude.{ℕ, true, false, not, List, [], ◌∷◌, Option, Some, None, is_none, codes}
 use Rattle.pf_base.specs.declared.fault.Place.{Place}
 use Rattle.pf_syntax.specs.Symbols.{is_end}
 use Rattle.pf_syntax.specs.Grammar.{Grammar, ◌>>=◌, give, until}

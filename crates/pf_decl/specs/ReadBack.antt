@@ -1,5 +1,5 @@
 -- The lines of settings as they are shown, read as statements.
-use Rattle.std.specs.Prelude.{◌≡◌, ℕ, Bool, true, false, ◌&&◌, ◌==◌, not, nat_le, List, [], ◌∷◌, map, Option}
+use Rattle.std.specs.Prelude.{ℕ, Bool, true, false, ◌&&◌, ◌==◌, not, nat_le, List, map, Option}
 use Rattle.std.specs.List.{list_all}
 use Rattle.pf_base.specs.declared.fault.Place.{Place}
 use Rattle.pf_parts.specs.declared.block.BlockKind.{BlockKind}

@@ -18,7 +18,7 @@ pub mod table;
 pub use check::{QueueFault, UsedQueue, check_queues, queues_are_judged_once};
 pub use decl::{parse_decl, tokens_have_one_declaration};
 pub use form::{Bandwidth, Burst, Decl, OptionLine, Queue, SetForm, Setting, TableForm, TableItem};
-pub use read_back::{declared_lines_read_back, shown_lines_read_back};
+pub use read_back::shown_lines_read_back;
 
 #[cfg(test)]
 mod tests;
