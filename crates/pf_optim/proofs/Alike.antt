@@ -1,5 +1,5 @@
 -- A written rule hits alike in surroundings that differ in automatic tables alone.
-use Rattle.std.proofs.Common.{◌≡◌, ℕ, Bool, true, false, ◌&&◌, List, [], ◌∷◌, nat_le, nat_lt, refl, ap, ◌∙◌, arith}
+use Rattle.std.proofs.Common.{◌≡◌, ℕ, Bool, true, ◌&&◌, List, [], ◌∷◌, nat_le, nat_lt, refl, ap, ◌∙◌, arith}
 use Rattle.std.proofs.lemmas.Bool.{and_parts, ltb-true}
 use Rattle.pf_addr.specs.declared.addr.Addr.{Addr}
 use Rattle.pf_auto.specs.Standing.{names_none, test_names_between}

@@ -1,5 +1,5 @@
 -- The optimised form, block by block.
-use Rattle.std.proofs.Common.{◌≡◌, ℕ, zero, suc, append-nil, ◌+◌, ◌-◌, ◌*◌, ◌<◌, ◌≤◌, ◌^◌, cond, Bool, true, false, ◌&&◌, List, [], ◌∷◌, ◌++◌, map, length, take, drop, get_or, append_assoc, length-append, refl, sym, ap, ◌∙◌, subst, arith}
+use Rattle.std.proofs.Common.{◌≡◌, ℕ, zero, suc, append-nil, ◌+◌, ◌-◌, ◌<◌, ◌≤◌, cond, Bool, true, false, ◌&&◌, List, [], ◌∷◌, ◌++◌, map, length, take, drop, get_or, append_assoc, length-append, refl, sym, ap, ◌∙◌, subst, arith}
 use Rattle.std.proofs.lemmas.List.{at_drop_more, length-map}
 use Rattle.std.proofs.lemmas.List.Sorted.{length_permutation}
 use Rattle.std.proofs.lemmas.List.Sums.{sum_by-take-drop, sum_by-take-le}
@@ -12,7 +12,7 @@ use Rattle.pf_auto.specs.declared.merging.Merged.{Merged}
 use Rattle.pf_base.specs.declared.kind.Level.{Level}
 use Rattle.pf_cover.specs.Kept.{kept_rules, kept_weights}
 use Rattle.pf_optim.specs.FormSteps.{with_block}
-use Rattle.pf_optim.specs.Optimised.{Listed, block_optimised, blocks_in, blocks_optimised, is_profiled, is_quick, joined, kept_in, nothing, ordered, rules_in, weights_in}
+use Rattle.pf_optim.specs.Optimised.{Listed, block_optimised, blocks_in, blocks_optimised, is_profiled, is_quick, joined, kept_in, ordered, rules_in, weights_in}
 use Rattle.pf_optim.proofs.Spans.{StandsIn, length_spans, spans_of_view, stands_at, zip_part}
 use Rattle.pf_order.specs.Blocks.{blocks_of, joins, spans_from}
 use Rattle.pf_order.specs.declared.block.Span.{Span}

@@ -1,31 +1,31 @@
 -- The walk through the optimised rules of blocks is the walk through their written rules.
-use Rattle.std.proofs.Common.{◌≡◌, ℕ, ◌+◌, ◌<◌, cond, Bool, true, false, not, ◌&&◌, ◌||◌, List, [], ◌∷◌, ◌++◌, map, length, get_or, refl, sym, ap, ◌∙◌, subst, arith, ◌⊎◌, inl, inr}
+use Rattle.std.proofs.Common.{◌≡◌, ℕ, ◌+◌, cond, Bool, true, false, not, ◌&&◌, ◌||◌, List, [], ◌∷◌, ◌++◌, map, length, refl, sym, ap, ◌∙◌, subst, arith, ◌⊎◌, inl, inr}
 use Rattle.std.proofs.lemmas.Bool.{and_parts, and_from, false≢true}
 use Rattle.std.proofs.lemmas.List.{length-map, map-append}
 use Rattle.std.proofs.lemmas.List.Folds.{list_all-append}
 use Rattle.std.proofs.lemmas.Slice.Zip.{firsts-zip}
-use Rattle.std.specs.List.{All, flat_map, list_all, list_any, zip}
+use Rattle.std.specs.List.{flat_map, list_all, list_any, zip}
 use Rattle.pf_addr.specs.declared.addr.Addr.{Addr}
 use Rattle.pf_auto.specs.Merged.{merged_from}
 use Rattle.pf_auto.specs.Standing.{StandFor, names_none}
 use Rattle.pf_auto.specs.declared.merging.AutoTable.{AutoTable}
 use Rattle.pf_cover.specs.Cover.{covers}
 use Rattle.pf_cover.specs.Kept.{is_dropped, kept_rules, kept_weights, placed}
-use Rattle.pf_optim.specs.Meaning.{ActAlike, ActsByEffect, AgreeOnDeclared, KeepsTheWalk, KeepsWalks, StandBeside, WalksRules, are_written}
-use Rattle.pf_optim.specs.Optimised.{block_optimised, blocks_in, blocks_optimised, is_profiled, is_quick, kept_in, optimised, ordered, rules_in, weights_in}
+use Rattle.pf_optim.specs.Meaning.{KeepsTheWalk, KeepsWalks, StandBeside, WalksRules, are_written}
+use Rattle.pf_optim.specs.Optimised.{block_optimised, blocks_in, blocks_optimised, is_profiled, is_quick, kept_in, ordered, rules_in, weights_in}
 use Rattle.pf_base.specs.declared.kind.Level.{Level}
 use Rattle.pf_base.specs.declared.kind.Level.TheVariants as level_is
 use Rattle.pf_optim.proofs.Alike.{hits_alike}
-use Rattle.pf_optim.proofs.Lists.{all_alike, all_all, all_filter, all_left, all_map, all_placed, all_right, any_map, any_same, any_same_at, none_all, true_all}
+use Rattle.pf_optim.proofs.Lists.{all_alike, all_all, all_filter, all_left, all_map, all_placed, all_right, any_map, any_same, any_same_at, none_all}
 use Rattle.pf_order.specs.Blocks.{is_barrier, joins, runs_of}
-use Rattle.pf_order.specs.Order.{gain, gain_order, profile_order, sorted_order}
+use Rattle.pf_order.specs.Order.{gain_order, profile_order}
 use Rattle.pf_order.specs.Runs.{is_linked}
 use Rattle.pf_rule.specs.Around.{Around}
 use Rattle.pf_rule.specs.Effect.{effect_on, is_anchor}
 use Rattle.pf_rule.specs.Equal.{effects}
 use Rattle.pf_rule.specs.Hit.{hits_at}
-use Rattle.pf_rule.specs.Walk.{walked_by, walking_by}
-use Rattle.pf_rule.specs.Walking.{DoAlike, OneEffect, Walking, once, some_hits, walked_past, walked_through}
+use Rattle.pf_rule.specs.Walk.{walking_by}
+use Rattle.pf_rule.specs.Walking.{DoAlike, OneEffect, Walking, once, some_hits, walked_through}
 use Rattle.pf_rule.specs.declared.criteria.AddrSet.TheVariants.{Auto}
 use Rattle.pf_rule.specs.declared.effect.Effect.{Effect}
 use Rattle.pf_table.specs.Table.{member}

@@ -1,5 +1,5 @@
 -- Which tables the optimised rules name, and which anchors they have.
-use Rattle.std.proofs.Common.{◌≡◌, ℕ, zero, suc, ◌+◌, ◌<◌, ◌≤◌, nat_le, nat_lt, Bool, true, false, not, ◌&&◌, ◌||◌, List, [], ◌∷◌, ◌++◌, map, length, length-append, refl, sym, ap, ◌∙◌, subst, arith, inl, inr}
+use Rattle.std.proofs.Common.{◌≡◌, ℕ, zero, suc, ◌+◌, ◌≤◌, nat_le, nat_lt, Bool, true, false, not, ◌&&◌, ◌||◌, List, [], ◌∷◌, ◌++◌, map, length, length-append, refl, sym, ap, ◌∙◌, arith, inl, inr}
 use Rattle.std.proofs.lemmas.Bool.{and_from, and_parts, le-leb, ltb-true, lt-ltb}
 use Rattle.std.proofs.lemmas.List.{map-append}
 use Rattle.std.proofs.lemmas.List.Folds.{list_all-append}
@@ -10,7 +10,6 @@ use Rattle.pf_auto.specs.Standing.{names_between, names_none, test_names_between
 use Rattle.pf_auto.specs.declared.merging.AutoTable.{AutoTable}
 use Rattle.pf_base.specs.declared.kind.Level.{Level}
 use Rattle.pf_base.specs.declared.kind.Level.TheVariants as level_is
-use Rattle.pf_cover.specs.Kept.{kept_rules}
 use Rattle.pf_optim.specs.Meaning.{are_written}
 use Rattle.pf_optim.specs.Optimised.{block_optimised, blocks_in, blocks_optimised, kept_in, optimised, ordered, rules_in}
 use Rattle.pf_optim.proofs.Keeping.{RunLaws, StepLaws, all_kept, any_ordered, block_effects, block_of_one, both_join, joined_parts, linked_effects, rules_kept, true_or_false}

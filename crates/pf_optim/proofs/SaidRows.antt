@@ -1,8 +1,8 @@
 -- Lines that say rows.
-use Rattle.std.proofs.Common.{◌≡◌, ℕ, ◌+◌, ◌<◌, cond, Bool, true, false, not, ◌&&◌, ◌||◌, List, [], ◌∷◌, ◌++◌, map, length, Option, Some, None, append-nil, refl, sym, ap, ◌∙◌, subst, arith}
+use Rattle.std.proofs.Common.{◌≡◌, ℕ, cond, Bool, true, false, not, ◌||◌, List, [], ◌∷◌, ◌++◌, Option, Some, None, append-nil, refl, sym, ap, ◌∙◌, subst}
 use Rattle.std.proofs.lemmas.Bool.{false≢true}
 use Rattle.std.proofs.lemmas.List.{map-append}
-use Rattle.std.proofs.Common.{Bor, Result, Ok, Err, is_some, inl, inr}
+use Rattle.std.proofs.Common.{Bor, Result, Ok, Err, is_some, inr}
 use Rattle.std.specs.List.{AllZip, filter, find, list_any, onto_first, slice_split}
 use Rattle.std.specs.Map.{lookup}
 use Rattle.std.specs.Option.{IfSome, option_map_or, unwrap_or}
@@ -10,7 +10,7 @@ use Rattle.indexmap.proofs.CallerLemmas.{insert_entry-new}
 use Rattle.indexmap.specs.IndexMap.{IndexMap, get, insert_entry}
 use Rattle.pf_base.specs.Text.{fields_of, is_space}
 use Rattle.pf_base.specs.Equality.{Equality, lists, numbers, pairs}
-use Rattle.pf_optim.specs.Profile.{AreApart, HasFault, Says, SayRows, TellOf, is_about, is_passed_over, is_told, said_lines, weight_at}
+use Rattle.pf_optim.specs.Profile.{AreApart, Says, SayRows, is_about, is_passed_over, is_told, said_lines, weight_at}
 use Rattle.pf_optim.specs.Keys.{keys}
 use Rattle.pf_optim.specs.ProfileSteps.{AddsRow, NoWords, TakesOr, TakesRowOr, row_of, rows_of}
 use Rattle.pf_optim.specs.declared.fault.LineFault.{LineFault}

@@ -1,12 +1,12 @@
 -- The skips of all places, found from the last rule to the first, are the skips.
-use Rattle.std.proofs.Common.{◌≡◌, ℕ, zero, suc, ◌+◌, ◌-◌, ◌<◌, ◌≤◌, cond, Bool, true, false, List, [], ◌∷◌, ◌++◌, reverse, map, length, get_or, take, drop, Option, Some, None, length-drop, refl, sym, ap, ◌∙◌, subst, arith}
+use Rattle.std.proofs.Common.{◌≡◌, ℕ, zero, suc, ◌+◌, ◌-◌, ◌<◌, ◌≤◌, cond, Bool, true, false, List, [], ◌∷◌, ◌++◌, reverse, length, get_or, take, drop, Option, Some, length-drop, refl, sym, ap, ◌∙◌, subst, arith}
 use Rattle.std.proofs.lemmas.Bool.{false≢true}
 use Rattle.std.proofs.lemmas.List.{at_drop_more, length-map, reverse-append, take_all}
 use Rattle.std.proofs.lemmas.List.FromFn.{get_or-map-range_with_len}
 use Rattle.std.specs.List.{prefix_len, slice_get}
 use Rattle.pf_base.specs.Equality.{options}
 use Rattle.pf_optim.specs.Skips.{IsSkip, run_of, same_value, skip, values_at}
-use Rattle.pf_optim.specs.SkipSteps.{all_fields, first_row, row_by, row_of, rows_from, skip_before, step_by}
+use Rattle.pf_optim.specs.SkipSteps.{first_row, row_by, row_of, rows_from, skip_before}
 use Rattle.pf_order.specs.Order.{value_at}
 use Rattle.pf_rule.specs.Equal.{skip_values}
 use Rattle.pf_rule.specs.declared.field.FieldValue.{FieldValue}

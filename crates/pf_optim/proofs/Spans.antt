@@ -1,6 +1,6 @@
 -- The spans of runs, and what stands in them.
 use Rattle.std.proofs.Common.{◌≡◌, ℕ, zero, suc, ◌+◌, ◌-◌, ◌<◌, ◌≤◌, cond, Bool, true, false, List, [], ◌∷◌, ◌++◌, map, length, get_or, take, drop, append_assoc, length-append, refl, sym, ap, ◌∙◌, subst, arith}
-use Rattle.std.proofs.lemmas.List.{length-map, take_all}
+use Rattle.std.proofs.lemmas.List.{length-map}
 use Rattle.std.specs.List.{flat_map, zip}
 use Rattle.pf_order.specs.Blocks.{runs_of, spans_from, with_run}
 use Rattle.pf_order.specs.declared.block.Span.{Span}

@@ -1,5 +1,5 @@
 -- The optimised form, as the code finds it: block by block, each behind what there is.
-use Rattle.std.specs.Prelude.{ℕ, ◌+◌, List, ◌++◌, length}
+use Rattle.std.specs.Prelude.{ℕ, List, length}
 use Rattle.std.specs.List.{zip}
 use Rattle.pf_optim.specs.Optimised.{Listed, block_optimised, joined}
 use Rattle.pf_optim.specs.declared.form.Form.{Form}

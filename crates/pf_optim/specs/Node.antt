@@ -1,5 +1,5 @@
 -- What stands at a path of the tree.
-use Rattle.std.specs.Prelude.{ℕ, Bool, ◌&&◌, ◌==◌, length}
+use Rattle.std.specs.Prelude.{Bool, ◌&&◌, ◌==◌, length}
 use Rattle.std.specs.FinMap as finite
 use Rattle.pf_optim.specs.Ruleset.{Written}
 use Rattle.pf_shelf.specs.Shelf.{Tables}

@@ -1,6 +1,6 @@
 -- Profiles: how often each rule of a ruleset was used (pf.conf(5), "set ruleset-optimization profile"). A profile is a text
 -- of lines `PATH PLACE COUNT`, which single spaces separate. Empty lines and those that begin with `#` are passed over.
-use Rattle.std.specs.Prelude.{◌≡◌, ℕ, ◌+◌, ◌≤◌, Bool, true, false, not, ◌&&◌, ◌==◌, ◌⊎◌, List, [], ◌∷◌, ◌++◌, length, map, Option, Some, None}
+use Rattle.std.specs.Prelude.{◌≡◌, ℕ, ◌+◌, ◌≤◌, Bool, true, false, not, ◌&&◌, ◌==◌, ◌⊎◌, List, [], ◌∷◌, ◌++◌, length, map, Some}
 use Rattle.std.specs.List.{AllZip, filter, find, list_any, range_with_len}
 use Rattle.std.specs.Option.{option_map_or}
 use Rattle.pf_base.specs.Decimal.{decimal_of}

@@ -1,6 +1,6 @@
 -- Skip steps: where the evaluation of a list of rules goes on when a rule fails in a field. All rules up to there are equal
 -- in that field, so they fail too.
-use Rattle.std.specs.Prelude.{◌≡◌, ℕ, ◌+◌, ◌<◌, ◌≤◌, List, [], ◌∷◌, length, drop, map, Bool, Option, Some, slice_get}
+use Rattle.std.specs.Prelude.{◌≡◌, ℕ, ◌+◌, ◌<◌, ◌≤◌, List, length, drop, map, Bool, Option, Some, slice_get}
 use Rattle.std.specs.List.{prefix_len}
 use Rattle.pf_base.specs.Equality.{options}
 use Rattle.pf_order.specs.Order.{value_at}

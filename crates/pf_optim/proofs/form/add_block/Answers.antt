@@ -1,6 +1,5 @@
-use Rattle.std.proofs.Common.{◌≡◌, ℕ, List, length, ap, ◌++◌, ◌∙◌, arith}
+use Rattle.std.proofs.Common.{ℕ, List, length, ap, ◌∙◌, arith}
 use Rattle.std.specs.List.{zip}
-use Rattle.pf_auto.specs.Merged.{merge_of}
 use Rattle.pf_optim.specs.FormSteps.{shown}
 use Rattle.pf_optim.specs.Optimised.{ordered}
 use Rattle.pf_optim.proofs.Forming.{form_added, merged_small}

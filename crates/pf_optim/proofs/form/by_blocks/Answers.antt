@@ -1,8 +1,8 @@
-use Rattle.std.proofs.Common.{◌≡◌, ℕ, ◌+◌, ◌-◌, ◌<◌, List, [], length, get_or, take, drop, sym, ap, ◌∙◌, arith}
+use Rattle.std.proofs.Common.{ℕ, ◌+◌, ◌-◌, ◌<◌, List, [], length, get_or, take, drop, ap, ◌∙◌, arith}
 use Rattle.std.specs.List.{sum, zip}
 use Rattle.pf_optim.specs.FormSteps.{shown}
 use Rattle.pf_optim.specs.Optimised.{blocks_in}
-use Rattle.pf_optim.proofs.Forming.{BlockMore, SizeLaws, all_made, block_added, none_yet, runs_long, span_facts, sum_part}
+use Rattle.pf_optim.proofs.Forming.{SizeLaws, all_made, block_added, none_yet, runs_long, span_facts, sum_part}
 use Rattle.pf_optim.proofs.Keeping.{both_join}
 use Rattle.pf_rule.specs.declared.rule.Rule.{Rule}
 use Rattle.pf_optim.proofs.form.by_blocks.Goals as goal

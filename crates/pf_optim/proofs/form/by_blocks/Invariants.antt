@@ -1,4 +1,4 @@
-use Rattle.std.proofs.Common.{◌≡◌, ℕ, ◌+◌, ◌≤◌, List, drop, length}
+use Rattle.std.proofs.Common.{◌≡◌, ◌+◌, ◌≤◌, drop, length}
 use Rattle.std.specs.List.{flat_map, zip}
 use Rattle.pf_optim.specs.FormSteps.{shown}
 use Rattle.pf_optim.specs.Optimised.{blocks_in, blocks_optimised, joined}

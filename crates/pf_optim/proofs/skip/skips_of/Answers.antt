@@ -1,4 +1,4 @@
-use Rattle.std.proofs.Common.{◌≡◌, ℕ, List, ◌+◌, ◌-◌, ◌<◌, length, drop, reverse, sym, ap, ◌∙◌, arith}
+use Rattle.std.proofs.Common.{◌≡◌, ◌+◌, ◌-◌, ◌<◌, length, reverse, sym, ap, ◌∙◌, arith}
 use Rattle.pf_optim.specs.SkipSteps.{first_row, row_of}
 use Rattle.pf_optim.proofs.Skipping.{from_place, rows_more, to_end}
 use Rattle.pf_optim.proofs.skip.skips_of.Goals as goal

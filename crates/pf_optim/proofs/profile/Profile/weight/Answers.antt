@@ -1,4 +1,4 @@
-use Rattle.std.proofs.Common.{ℕ, List, Option, ◌∙◌, ap, sym}
+use Rattle.std.proofs.Common.{ℕ, List, Option, ◌∙◌, ap}
 use Rattle.std.specs.Option.{unwrap_or}
 use Rattle.pf_optim.specs.Profile.{weight_at}
 use Rattle.pf_optim.specs.declared.rows.Row.{Row}

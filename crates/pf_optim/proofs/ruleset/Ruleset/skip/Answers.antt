@@ -1,4 +1,4 @@
-use Rattle.std.proofs.Common.{◌≡◌, ℕ, List, ◌+◌, ◌<◌, length, get_or, sym, ap, ◌∙◌, subst, arith}
+use Rattle.std.proofs.Common.{ℕ, List, ◌<◌, length, get_or, sym, ap, ◌∙◌, subst, arith}
 use Rattle.pf_optim.specs.Ruleset.{Written, form_of}
 use Rattle.pf_optim.specs.Skips.{IsSkip, skip}
 use Rattle.pf_optim.proofs.Skipping.{length_rows, row_at, skip_is}
