@@ -16,7 +16,7 @@ use Rattle.pf_cover.proofs.Follows.{or_cases}
 use Rattle.pf_cover.proofs.Tops.{IsDropping, Top, any_among, among_kept, some_top, top_of}
 
 -- a rule drops another: it covers it, and where it is covered too it stands before it
-drops_cover : (a b : ℕ × Rule) → drops a b ≡ true → covers a.1.criteria b.1.criteria ≡ true
+pub drops_cover : (a b : ℕ × Rule) → drops a b ≡ true → covers a.1.criteria b.1.criteria ≡ true
 drops_cover a b h = (and_parts (covers a.1.criteria b.1.criteria) _ h).0
 
 drops_before : (a b : ℕ × Rule) → drops a b ≡ true → covers b.1.criteria a.1.criteria ≡ true → a.0 < b.0
@@ -152,13 +152,6 @@ zip_sum rules weights e = ap sum (seconds-zip (placed rules) weights (sym (lengt
 pub own_sum : (rules : List Rule) (weights : List ℕ) → length rules ≡ length weights → sum (own_weights rules weights) + second_sum (dropped_weighed rules weights) ≤ sum weights
 own_sum rules weights e = omega (arith, halves (is_dropped rules) (zip (placed rules) weights), zip_sum rules weights e)
 
-pub kept_sum : (rules : List Rule) (weights : List ℕ) → length rules ≡ length weights → sum (kept_weights rules weights) ≤ sum weights
-kept_sum rules weights e =
-    omega (
-      arith,
-      all_given_sum (kept_rules rules) (own_weights rules weights) (dropped_weighed rules weights),
-      own_sum rules weights e,
-    )
 
 -- a kept rule for each weight
 own_length : (dropped : ℕ × Rule → Bool) (xs : List (ℕ × Rule)) (weights : List ℕ) → length xs ≡ length weights → length (own_of dropped (zip xs weights)) ≡ length (map (λ rule. rule.1) (filter (λ rule. not (dropped rule)) xs))
@@ -200,4 +193,49 @@ kept_fewer rules =
       length-map (kept rules) (λ (pair : ℕ × Rule). pair.1),
       length-filter_both (λ rule. not (is_dropped rules rule)) (λ rule. not (not (is_dropped rules rule))) (λ _. refl) (placed rules),
       length-enumerate_from 0 rules,
+    )
+
+-- the weight of a rule that some kept rule covers goes to one
+first_grows : (w k : ℕ) (ws : List ℕ) → sum ((w + k) ∷ ws) ≡ sum (w ∷ ws) + k
+first_grows w k ws = omega (arith, sum_cons (w + k) ws, sum_cons w ws)
+
+later_grows : (w k : ℕ) (ws vs : List ℕ) → sum vs ≡ sum ws + k → sum (w ∷ vs) ≡ sum (w ∷ ws) + k
+later_grows w k ws vs h = omega (arith, sum_cons w ws, sum_cons w vs)
+
+given_whole : (rules : List Rule) (weights : List ℕ) (d : Rule × ℕ) → length rules ≡ length weights → list_any (λ one. covers one.criteria d.0.criteria) rules ≡ true → sum (given_to_first rules weights d) ≡ sum weights + d.1
+given_whole [] weights d e h = absurd (false≢true h)
+given_whole (rule ∷ rules) [] d e h = absurd (omega arith)
+given_whole (rule ∷ rules) (w ∷ ws) d e h0 =
+    elim (covers rule.criteria d.0.criteria) as (λ b. (b || list_any (λ one. covers one.criteria d.0.criteria) rules) ≡ true → sum (cond b ((w + d.1) ∷ ws) (w ∷ given_to_first rules ws d)) ≡ sum (w ∷ ws) + d.1) [
+      | true ↦ λ h. first_grows w d.1 ws
+      | false ↦ λ h. later_grows w d.1 ws (given_to_first rules ws d) (given_whole rules ws d (omega arith) h)
+    ] h0
+
+all_given_whole : (rules : List Rule) (weights : List ℕ) (ds : List (Rule × ℕ)) → length rules ≡ length weights → list_all (λ d. list_any (λ one. covers one.criteria d.0.criteria) rules) ds ≡ true → sum (fold (given_to_first rules) weights ds) ≡ sum weights + second_sum ds
+all_given_whole rules weights [] e h = omega arith
+all_given_whole rules weights (d ∷ ds) e h =
+    let parts = and_parts (list_any (λ one. covers one.criteria d.0.criteria) rules) (list_all (λ d. list_any (λ one. covers one.criteria d.0.criteria) rules) ds) h in
+    omega (arith, all_given_whole rules (given_to_first rules weights d) ds (e ∙ sym (given_length rules weights d)) parts.1, given_whole rules weights d e parts.0, sum_cons d.1 (map (λ item. item.1) ds))
+
+-- each dropped rule is covered by a kept one
+weighed_covered : (rules : List Rule) (items : List ((ℕ × Rule) × ℕ)) → list_all (λ d. list_any (λ one. covers one.criteria d.0.criteria) (kept_rules rules)) (weighed_of (is_dropped rules) items) ≡ true
+weighed_covered rules [] = refl
+weighed_covered rules (item ∷ items) =
+    let covered : Rule × ℕ → Bool = λ d. list_any (λ one. covers one.criteria d.0.criteria) (kept_rules rules) in
+    let rest = weighed_covered rules items in
+    elim (is_dropped rules item.0) as (λ b. is_dropped rules item.0 ≡ b → list_all covered (map (λ item. (item.0.1, item.1)) (cond b (item ∷ filter (λ item. is_dropped rules item.0) items) (filter (λ item. is_dropped rules item.0) items))) ≡ true) [
+      | true ↦ λ e.
+          and_from (covered (item.0.1, item.1)) (list_all covered (weighed_of (is_dropped rules) items))
+          (any_map (λ pair. pair.1) (λ one. covers one.criteria item.0.1.criteria) (kept rules) ∙ dropped_covered rules item.0 e) rest
+      | false ↦ λ e. rest
+    ] refl
+
+pub kept_total : (rules : List Rule) (weights : List ℕ) → length rules ≡ length weights → sum (kept_weights rules weights) ≡ sum weights
+kept_total rules weights e =
+    let each : length (kept_rules rules) ≡ length (own_weights rules weights) = sym (own_each rules weights e) in
+    omega (
+      arith,
+      all_given_whole (kept_rules rules) (own_weights rules weights) (dropped_weighed rules weights) each (weighed_covered rules (zip (placed rules) weights)),
+      halves (is_dropped rules) (zip (placed rules) weights),
+      zip_sum rules weights e,
     )

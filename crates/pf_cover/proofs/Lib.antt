@@ -4,3 +4,5 @@ pub mod Covering
 pub mod Tops
 pub mod Keeping
 pub mod Giving
+mod Corners
+mod Searching

@@ -1,2 +1,4 @@
 pub mod Cover
 pub mod Kept
+pub mod Corner
+pub mod Search

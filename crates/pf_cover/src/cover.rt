@@ -132,7 +132,7 @@ fn lies_inside(wide: &AddrSet, narrow: &AddrSet) -> bool
     }
 }
 
-fn stretch_of(set: &AddrSet) -> Option<Stretch>
+pub(crate) fn stretch_of(set: &AddrSet) -> Option<Stretch>
     ensures { result ≡ stretch_of set.now }
 {
     match set {

@@ -1,10 +1,12 @@
 //! The rules of a block that are kept, and their weights.
-ghost use Rattle.std.specs.Prelude.{◌≡◌, ◌+◌, ◌<◌, ◌^◌, ◌++◌, [], ◌∷◌, ℕ, length, sum, IfOk, IsTrue, OnOk, if◌then◌else◌};
+ghost use Rattle.std.specs.Prelude.{◌≡◌, ◌+◌, ◌<◌, ◌^◌, ◌++◌, [], ◌∷◌, ℕ, length, sum, IfOk, IsTrue, OnOk, slice_index_or, if◌then◌else◌};
 ghost use Rattle.std.specs.List.{position, position_or_len};
 ghost use Rattle.pf_cover.specs.Cover.{covers};
-ghost use Rattle.pf_cover.specs.Kept.{drops, given_to_first, is_dropped, kept_places, kept_rules, kept_weights, own_weights};
+ghost use Rattle.pf_cover.specs.Search.{dropped_of};
+ghost use Rattle.pf_cover.specs.Kept.{given_to_first, is_dropped, kept_places, kept_rules, kept_weights, own_weights};
 
 use crate::cover::covers;
+use crate::search::dropped;
 use pf_base::{List, NoMemory};
 use pf_rule::Rule;
 use std::alloc::Global;
@@ -16,9 +18,10 @@ pub fn keep(alloc: Global, rules: &[Rule]) -> Result<List<u32>, NoMemory>
     requires { length rules.now < 2 ^ 32 }
     ensures { IfOk result (λ places. places ≡ kept_places rules.now) }
 {
+    let flags = dropped(alloc, rules)?;
     let mut places = List::new(alloc);
     for i in 0..rules.len() {
-        let dropped = is_dropped(rules, i, &rules[i]);
+        let dropped = is_dropped(&flags, rules, i, &rules[i]);
         push_unless(&mut places, dropped, i as u32)?;
     }
     Ok(places)
@@ -33,21 +36,14 @@ fn push_unless(places: &mut List<u32>, dropped: bool, place: u32) -> Result<(), 
     places.push(place)
 }
 
-// Whether some rule of the block drops the other, which stands at this place.
-#[tactic(auto, unfolding(crate::specs::Kept::is_dropped))]
-pub(crate) fn is_dropped(rules: &[Rule], place: usize, other: &Rule) -> bool
-    ensures { result ≡ is_dropped rules.now (place, other.now) }
+// Whether the rule at this place is dropped, by these flags.
+fn is_dropped(flags: &[bool], rules: &[Rule], place: usize, rule: &Rule) -> bool
+    requires flags { flags.now ≡ dropped_of rules.now }
+    requires at { place < length rules.now }
+    requires is { rule.now ≡ slice_index_or rules.now place rule.now }
+    ensures { result ≡ is_dropped rules.now (place, rule.now) }
 {
-    rules
-        .iter()
-        .enumerate()
-        .any(|(i, one)| drops(i, one, place, other))
-}
-
-fn drops(i: usize, one: &Rule, place: usize, other: &Rule) -> bool
-    ensures { result ≡ drops (i, one.now) (place, other.now) }
-{
-    covers(one, other) && (!covers(other, one) || i < place)
+    flags[place]
 }
 
 /// The rules of a block that are kept, and their weights.
@@ -65,21 +61,23 @@ pub fn keep_weighed(alloc: Global, rules: &[Rule], weights: &[u64]) -> Result<Ke
     ensures rules { IfOk result (λ kept. kept.rules ≡ kept_rules rules.now) }
     ensures weights { IfOk result (λ kept. kept.weights ≡ kept_weights rules.now weights.now) }
 {
-    let kept = rules_kept(alloc, rules)?;
-    let weights = weights_kept(alloc, rules, weights, kept.items())?;
+    let flags = dropped(alloc, rules)?;
+    let kept = rules_kept(alloc, rules, &flags)?;
+    let weights = weights_kept(alloc, rules, weights, &flags, kept.items())?;
     Ok(Kept {
         rules: kept,
         weights: List::of(weights),
     })
 }
 
-fn rules_kept(alloc: Global, rules: &[Rule]) -> Result<List<Rule>, NoMemory>
+fn rules_kept(alloc: Global, rules: &[Rule], flags: &[bool]) -> Result<List<Rule>, NoMemory>
+    requires { flags.now ≡ dropped_of rules.now }
     ensures { IfOk result (λ kept. kept ≡ kept_rules rules.now) }
 {
     let mut kept = List::new(alloc);
     for i in 0..rules.len() {
         let rule = &rules[i];
-        let dropped = is_dropped(rules, i, rule);
+        let dropped = is_dropped(flags, rules, i, rule);
         push_rule_unless(&mut kept, dropped, rule)?;
     }
     Ok(kept)
@@ -98,30 +96,38 @@ fn weights_kept(
     alloc: Global,
     rules: &[Rule],
     weights: &[u64],
+    flags: &[bool],
     kept: &[Rule],
 ) -> Result<Vec<u64>, NoMemory>
     requires same { length rules.now ≡ length weights.now }
     requires few { sum weights.now < 2 ^ 64 }
+    requires flags { flags.now ≡ dropped_of rules.now }
     requires kept { kept.now ≡ kept_rules rules.now }
     ensures { IfOk result (λ weights_kept. weights_kept.items ≡ kept_weights rules.now weights.now) }
 {
-    let mut given = weights_alone(alloc, rules, weights)?;
+    let mut given = weights_alone(alloc, rules, weights, flags)?;
     for i in 0..rules.len() {
         let rule = &rules[i];
-        let dropped = is_dropped(rules, i, rule);
+        let dropped = is_dropped(flags, rules, i, rule);
         give_if(kept, &mut given, dropped, rule, weights[i]);
     }
     Ok(given)
 }
 
 // The weights of the kept rules before any other is given to them.
-fn weights_alone(alloc: Global, rules: &[Rule], weights: &[u64]) -> Result<Vec<u64>, NoMemory>
-    requires { length rules.now ≡ length weights.now }
+fn weights_alone(
+    alloc: Global,
+    rules: &[Rule],
+    weights: &[u64],
+    flags: &[bool],
+) -> Result<Vec<u64>, NoMemory>
+    requires same { length rules.now ≡ length weights.now }
+    requires flags { flags.now ≡ dropped_of rules.now }
     ensures { IfOk result (λ own. own.items ≡ own_weights rules.now weights.now) }
 {
     let mut own = Vec::new(alloc);
     for i in 0..rules.len() {
-        let dropped = is_dropped(rules, i, &rules[i]);
+        let dropped = is_dropped(flags, rules, i, &rules[i]);
         push_weight_unless(&mut own, dropped, weights[i])?;
     }
     Ok(own)

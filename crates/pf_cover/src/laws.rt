@@ -35,12 +35,12 @@ pub fn kept_rules_match_together()
     covering_rules_match_more();
 }
 
-/// Each kept rule has a weight, and their weights together are no more than those of all rules of the block.
+/// Each kept rule has a weight, and their weights together are those of all rules of the block.
 pub fn weights_go_to_kept_rules()
     ensures each { (rules : List Rule) (weights : List ℕ) → length rules ≡ length weights →
         length (kept_weights rules weights) ≡ length (kept_rules rules) }
     ensures total { (rules : List Rule) (weights : List ℕ) → length rules ≡ length weights →
-        sum (kept_weights rules weights) ≤ sum weights }
+        sum (kept_weights rules weights) ≡ sum weights }
 {}
 
 /// The kept rules are rules of the block, and no more than these: a test that each rule of the block passes each kept one

@@ -14,7 +14,7 @@ loop-i-preserved c =
     let rule = c.index-rules-i.result in
     let done = c.loop-i.own.items in
     let rest = drop (i + 1) (zip (placed rules) ws) in
-    let at = zip_at rules ws i rule c.requires c.loop-i-test.true c.index-rules-i.is in
+    let at = zip_at rules ws i rule c.requires.same c.loop-i-test.true c.index-rules-i.is in
     let step = own_step done (is_dropped rules) ((i, rule), get_or ws i 0) rest in
     ap (λ (t : List ℕ). t ++ own_of (is_dropped rules) rest)
     (c.in_ok-push_weight_unless.ensures ∙ ap (λ (b : Bool). done ++ cond b [] (get_or ws i 0 ∷ [])) c.is_dropped-dropped.ensures)
@@ -25,5 +25,5 @@ loop-i-preserved c =
 pub returns : goal.returns
 returns c =
     sym (append-nil c.loop-i.own.items)
-    ∙ sym (ap (λ (t : List ((ℕ × Rule) × ℕ)). c.loop-i.own.items ++ own_of (is_dropped c.args.rules.now) t) (zip_end c.args.rules.now c.args.weights.now c.loop-i.i c.requires c.loop-i-test.false))
+    ∙ sym (ap (λ (t : List ((ℕ × Rule) × ℕ)). c.loop-i.own.items ++ own_of (is_dropped c.args.rules.now) t) (zip_end c.args.rules.now c.args.weights.now c.loop-i.i c.requires.same c.loop-i-test.false))
     ∙ c.loop-i.invariant
