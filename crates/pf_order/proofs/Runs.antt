@@ -1,9 +1,9 @@
 -- Runs of neighbours are the whole list, each is linked, and none could be joined to the next.
 use Rattle.std.proofs.Common.{◌≡◌, cond, Bool, true, false, not, List, [], ◌∷◌, refl, sym, ap, ◌∙◌, subst}
-use Rattle.std.proofs.lemmas.Bool.{and_parts, and_from}
+use Rattle.std.proofs.lemmas.Bool.{and_parts, and_from, false≢true}
 use Rattle.std.specs.List.{flat_map, list_all}
 use Rattle.pf_order.specs.Blocks.{runs_of, with_run}
-use Rattle.pf_order.specs.Runs.{are_cut, is_linked}
+use Rattle.pf_order.specs.Runs.{are_cut, is_filled, is_linked}
 use Rattle.pf_order.proofs.Blocking.{begins}
 
 whole_with : {X : Type 0} (joins : X → X → Bool) (x : X) (runs : List (List X)) → flat_map (λ run. run) (with_run joins x runs) ≡ x ∷ flat_map (λ run. run) runs
@@ -53,3 +53,17 @@ cut {X = X} joins (x ∷ (y ∷ ys)) =
     let first = begins joins y (runs_of joins ys) in
     subst (λ (t : List (List X)). are_cut joins (with_run joins x t) ≡ true) (sym first.is)
     (cut_with joins x y first.others first.later (subst (λ (t : List (List X)). are_cut joins t ≡ true) first.is (cut joins (y ∷ ys))))
+
+-- no run is empty
+with_filled : {X : Type 0} (test : X → X → Bool) (x : X) (runs : List (List X)) → list_all is_filled runs ≡ true → list_all is_filled (with_run test x runs) ≡ true
+with_filled test x [] h = refl
+with_filled test x ([] ∷ runs) h = absurd (false≢true h)
+with_filled test x ((y ∷ ys) ∷ runs) h =
+    elim (test x y) as (λ b. list_all is_filled (cond b ((x ∷ (y ∷ ys)) ∷ runs) ((x ∷ []) ∷ ((y ∷ ys) ∷ runs))) ≡ true) [
+      | true ↦ h
+      | false ↦ h
+    ]
+
+pub filled : {X : Type 0} (test : X → X → Bool) (xs : List X) → list_all is_filled (runs_of test xs) ≡ true
+filled test [] = refl
+filled test (x ∷ xs) = with_filled test x (runs_of test xs) (filled test xs)

@@ -1,5 +1,5 @@
 -- What runs of neighbours are.
-use Rattle.std.specs.Prelude.{List, [], ◌∷◌, Bool, true, ◌&&◌, not}
+use Rattle.std.specs.Prelude.{List, [], ◌∷◌, Bool, true, false, ◌&&◌, not}
 
 -- each item joins the next
 abbrev pub is_linked : {X : Type 0} → (X → X → Bool) → List X → Bool
@@ -19,3 +19,8 @@ abbrev pub are_cut : {X : Type 0} → (X → X → Bool) → List (List X) → B
 are_cut joins [] = true
 are_cut joins (run ∷ []) = true
 are_cut joins (run ∷ (next ∷ runs)) = is_cut joins run next && are_cut joins (next ∷ runs)
+
+-- some item stands in the list
+abbrev pub is_filled : {X : Type 0} → List X → Bool
+is_filled [] = false
+is_filled (x ∷ xs) = true

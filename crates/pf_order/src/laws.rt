@@ -5,7 +5,7 @@ ghost use Rattle.std.specs.List.Sorted.{IsPermutation};
 ghost use Rattle.pf_order.specs.Blocks.{runs_of};
 ghost use Rattle.pf_order.specs.Cost.{cost};
 ghost use Rattle.pf_order.specs.Order.{by_weight, gain, gain_order, profile_order};
-ghost use Rattle.pf_order.specs.Runs.{are_cut, is_linked};
+ghost use Rattle.pf_order.specs.Runs.{are_cut, is_filled, is_linked};
 ghost use Rattle.pf_rule.specs.declared.rule.Rule.{Rule};
 
 /// Both orders of a block hold its rules and no others, so a test passes at some rule in the one exactly where it does in the
@@ -29,9 +29,10 @@ pub fn the_most_used_first_cost_least()
 {}
 
 /// The runs of neighbours that join, of items of any kind: one behind the other they are the whole list, in each run every
-/// item joins the next, and no run could be joined to the next one.
+/// item joins the next, no run could be joined to the next one, and none is empty.
 pub fn runs_are_the_longest<X>()
     ensures whole { (joins : X → X → Bool) (items : List X) → flat_map (λ run. run) (runs_of joins items) ≡ items }
     ensures linked { (joins : X → X → Bool) (items : List X) → list_all (is_linked joins) (runs_of joins items) ≡ true }
     ensures cut { (joins : X → X → Bool) (items : List X) → are_cut joins (runs_of joins items) ≡ true }
+    ensures filled { (joins : X → X → Bool) (items : List X) → list_all is_filled (runs_of joins items) ≡ true }
 {}

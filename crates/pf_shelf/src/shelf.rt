@@ -1,5 +1,5 @@
 //! A shelf of tables.
-ghost use Rattle.std.specs.Prelude.{◌≡◌, ◌↔◌, ◌≢◌, ◌++◌, IfOk, OnOk, OnErr, Err, None, true};
+ghost use Rattle.std.specs.Prelude.{◌≡◌, ◌==◌, ◌↔◌, ◌≢◌, ◌++◌, IfOk, OnOk, OnErr, Err, None, true};
 ghost use Rattle.std.specs.Option.{option_copied, option_map};
 ghost use Rattle.std.specs.List.{filter};
 ghost use Rattle.std.specs.FinMap as map;
@@ -149,6 +149,14 @@ impl Shelf {
         let _count = self.tables.len();
         let names = self.tables.keys().copied().collect(alloc)?;
         Ok(names)
+    }
+
+    /// Whether it has no table. It takes no memory.
+    pub fn is_empty(&self) -> bool
+        ensures { result ≡ (map.len self.now == 0) }
+    {
+        name_map_laws::<Shelved>();
+        self.tables.len() == 0
     }
 
     /// The number of entries of all its tables. It takes no memory.

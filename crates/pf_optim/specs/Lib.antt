@@ -1,0 +1,10 @@
+pub mod Optimised
+pub mod Skips
+pub mod SkipSteps
+pub mod Meaning
+pub mod Ruleset
+pub mod Keys
+pub mod Profile
+pub mod ProfileSteps
+pub mod FormSteps
+pub mod Node
