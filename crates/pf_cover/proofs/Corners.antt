@@ -1,12 +1,11 @@
 -- A rule that covers another has neither the larger low end nor the larger depth.
-use Rattle.std.proofs.Common.{◌≡◌, ℕ, zero, suc, ◌+◌, ◌-◌, ◌*◌, ◌<◌, ◌≤◌, Bool, true, false, not, ◌&&◌, ◌||◌, nat_le, ◌==◌, List, [], ◌∷◌, map, length, get_or, Option, Some, None, refl, sym, ap, ◌∙◌, ◌⊎◌, inl, inr, subst, arith, min, max}
+use Rattle.std.proofs.Common.{◌≡◌, ℕ, ◌+◌, ◌-◌, ◌*◌, ◌<◌, ◌≤◌, Bool, true, false, not, ◌&&◌, ◌||◌, nat_le, ◌==◌, List, [], ◌∷◌, map, length, get_or, Option, Some, None, refl, sym, ap, ◌∙◌, ◌⊎◌, inl, inr, subst, arith, min, max}
 use Rattle.std.proofs.lemmas.Bool.{and_parts, false_from_ne_true, false≢true, leb-true}
 use Rattle.std.proofs.lemmas.List.{get_or_default}
 use Rattle.std.proofs.lemmas.List.Elements.{All-head, All-map, All-tail}
 use Rattle.std.proofs.lemmas.List.FromFn.{get_or-enumerate_from, length-enumerate_from}
 use Rattle.std.proofs.lemmas.List.Sorted.{All-permutation, list_any-IsPermutation}
-use Rattle.std.specs.List.{All, enumerate_from, list_any}
-use Rattle.pf_addr.specs.Stretch.{encloses}
+use Rattle.std.specs.List.{All, list_any}
 use Rattle.pf_addr.specs.Addr.{bits_of}
 use Rattle.pf_addr.specs.declared.stretch.Stretch.{Stretch}
 use Rattle.pf_base.specs.Equality.{numbers, truths}
@@ -26,7 +25,7 @@ use Rattle.pf_rule.specs.declared.rule.Rule.{Rule}
 use Rattle.pf_cover.proofs.Follows.{or_cases}
 use Rattle.pf_cover.proofs.Keeping.{drops_cover}
 use Rattle.pf_cover.specs.Corner.{corner_at, depth_at, depth_of_ports, depth_of_stretch, depth_of_test, from_top, low_at, low_of_ports, low_of_stretch, low_of_test}
-use Rattle.pf_cover.specs.Cover.{address_covers, covers, equal_covers, interface_covers, lies_inside, numbers_cover, other_covers, set_covers, skip_covers, stretch_of}
+use Rattle.pf_cover.specs.Cover.{address_covers, covers, equal_covers, interface_covers, lies_inside, numbers_cover, other_covers, skip_covers, stretch_of}
 use Rattle.pf_cover.specs.Kept.{drops, is_dropped, placed}
 use Rattle.pf_cover.specs.Search.{AreCorners, corner_drops}
 use Rattle.pf_cover.specs.declared.corner.Axis.{Axis}

@@ -1,5 +1,5 @@
 -- Covering of criteria is transitive, criteria cover themselves, and where criteria hold, those that cover them hold.
-use Rattle.std.proofs.Common.{◌≡◌, Bool, true, ◌&&◌, Option, List, ℕ}
+use Rattle.std.proofs.Common.{◌≡◌, true, ◌&&◌, Option, List, ℕ}
 use Rattle.std.proofs.lemmas.Bool.{and_parts, and_from}
 use Rattle.pf_base.specs.Equality.{numbers}
 use Rattle.pf_base.specs.Kinds.{families}

@@ -1,11 +1,11 @@
 -- The weight of a dropped rule goes to the place of the first kept rule that covers it.
-use Rattle.std.proofs.Common.{◌≡◌, ℕ, zero, suc, ◌+◌, ◌<◌, ◌≤◌, cond, Bool, true, false, not, List, [], ◌∷◌, ◌++◌, map, sum, length, get_or, set, drop, refl, sym, ap, ◌∙◌, subst, append-nil, append_assoc, Option, Some, None, nat_lt, arith}
+use Rattle.std.proofs.Common.{◌≡◌, ℕ, suc, ◌+◌, ◌<◌, ◌≤◌, cond, Bool, true, false, not, List, [], ◌∷◌, ◌++◌, map, sum, length, get_or, set, drop, refl, sym, ap, ◌∙◌, subst, append-nil, append_assoc, Some, None, nat_lt, arith}
 use Rattle.std.proofs.lemmas.Bool.{ltb-false}
 use Rattle.std.proofs.lemmas.List.{at_drop_more, drop_all}
 use Rattle.std.proofs.lemmas.List.FromFn.{get_or-enumerate_from, length-enumerate_from}
 use Rattle.std.proofs.lemmas.Slice.Zip.{get_or-zip, length-zip}
 use Rattle.std.proofs.lemmas.List.Sums.{prefix_len-le-length, sum_by-cons}
-use Rattle.std.specs.List.{enumerate_from, filter, fold, position, position_or_len, zip}
+use Rattle.std.specs.List.{filter, fold, position, position_or_len, zip}
 use Rattle.pf_rule.specs.declared.rule.Rule.{Rule}
 use Rattle.pf_cover.specs.Cover.{covers}
 use Rattle.pf_cover.specs.Kept.{given_to_first, placed}

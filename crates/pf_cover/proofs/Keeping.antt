@@ -1,5 +1,5 @@
 -- What the kept rules of a block match, and their weights.
-use Rattle.std.proofs.Common.{◌≡◌, ℕ, suc, ◌+◌, ◌<◌, ◌≤◌, cond, Bool, true, false, not, ◌&&◌, ◌||◌, nat_lt, List, [], ◌∷◌, map, length, sum, refl, sym, ap, ◌∙◌, subst, ◌⊎◌, inl, inr, arith}
+use Rattle.std.proofs.Common.{◌≡◌, ℕ, suc, ◌+◌, ◌<◌, ◌≤◌, cond, Bool, true, false, not, ◌||◌, nat_lt, List, [], ◌∷◌, map, length, sum, refl, sym, ap, ◌∙◌, subst, inl, inr, arith}
 use Rattle.std.proofs.lemmas.Bool.{false≢true, and_parts, and_from, ltb-true, lt-ltb}
 use Rattle.std.proofs.lemmas.List.{length-map}
 use Rattle.std.proofs.lemmas.List.Elements.{All-filter, All-map}
@@ -13,7 +13,7 @@ use Rattle.pf_cover.specs.Cover.{covers}
 use Rattle.pf_cover.specs.Kept.{drops, given_to_first, is_dropped, dropped_weighed, kept, kept_rules, kept_weights, own_weights, placed}
 use Rattle.pf_cover.proofs.Covering.{covers_itself, covers_join}
 use Rattle.pf_cover.proofs.Follows.{or_cases}
-use Rattle.pf_cover.proofs.Tops.{IsDropping, Top, any_among, among_kept, some_top, top_of}
+use Rattle.pf_cover.proofs.Tops.{IsDropping, any_among, among_kept, some_top, top_of}
 
 -- a rule drops another: it covers it, and where it is covered too it stands before it
 pub drops_cover : (a b : ℕ × Rule) → drops a b ≡ true → covers a.1.criteria b.1.criteria ≡ true
@@ -151,7 +151,6 @@ zip_sum rules weights e = ap sum (seconds-zip (placed rules) weights (sym (lengt
 
 pub own_sum : (rules : List Rule) (weights : List ℕ) → length rules ≡ length weights → sum (own_weights rules weights) + second_sum (dropped_weighed rules weights) ≤ sum weights
 own_sum rules weights e = omega (arith, halves (is_dropped rules) (zip (placed rules) weights), zip_sum rules weights e)
-
 
 -- a kept rule for each weight
 own_length : (dropped : ℕ × Rule → Bool) (xs : List (ℕ × Rule)) (weights : List ℕ) → length xs ≡ length weights → length (own_of dropped (zip xs weights)) ≡ length (map (λ rule. rule.1) (filter (λ rule. not (dropped rule)) xs))

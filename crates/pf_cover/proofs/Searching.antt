@@ -1,12 +1,12 @@
 -- The search over corners passes none that drops the rule.
-use Rattle.std.proofs.Common.{◌≡◌, ℕ, suc, ◌+◌, ◌-◌, ◌<◌, ◌≤◌, Bool, true, false, List, [], ◌∷◌, ◌++◌, map, length, get_or, refl, sym, ap, ◌∙◌, ◌⊎◌, inl, inr, subst, arith}
+use Rattle.std.proofs.Common.{◌≡◌, ℕ, ◌-◌, ◌<◌, ◌≤◌, Bool, true, false, List, [], ◌∷◌, ◌++◌, length, get_or, sym, ap, ◌∙◌, ◌⊎◌, inl, inr, subst, arith}
 use Rattle.std.proofs.lemmas.Bool.{cases_lt}
 use Rattle.std.proofs.lemmas.List.{get_or-map, get_or_append_left, get_or_default, length-append, length-map}
-use Rattle.std.proofs.lemmas.List.FromFn.{get_or-enumerate_from, length-enumerate_from}
+use Rattle.std.proofs.lemmas.List.FromFn.{length-enumerate_from}
 use Rattle.std.proofs.lemmas.List.Folds.{list_any_at, list_any_none}
 use Rattle.std.proofs.Math.Seq.{get_or-append_seam}
 use Rattle.pf_rule.specs.declared.rule.Rule.{Rule}
-use Rattle.pf_cover.proofs.Corners.{IsCorner, corner_depth, corner_low, dropped_by_corners, each_corner, not_dropping, placed_at}
+use Rattle.pf_cover.proofs.Corners.{corner_depth, corner_low, dropped_by_corners, each_corner, not_dropping, placed_at}
 use Rattle.pf_cover.specs.Corner.{corner_at, depth_at, low_at}
 use Rattle.pf_cover.specs.Kept.{drops, is_dropped, placed}
 use Rattle.pf_cover.specs.Search.{AreCorners, AreDeeper, AreJumps, corner_drops, dropped_of}

@@ -1,7 +1,7 @@
 -- Where rules stand beside one another on one axis, so that most pairs need no comparison: the low end of a rule's
 -- addresses or ports, and its depth, which is how far their high end is from the top. A rule that covers another has
 -- neither larger.
-use Rattle.std.specs.Prelude.{ℕ, ◌+◌, ◌-◌, ◌*◌, ◌^◌, Bool, true, false, Option, Some, None, min, max}
+use Rattle.std.specs.Prelude.{ℕ, ◌+◌, ◌-◌, ◌*◌, ◌^◌, true, false, Option, Some, None, min, max}
 use Rattle.pf_addr.specs.declared.stretch.Stretch.{Stretch}
 use Rattle.pf_cover.specs.Cover.{stretch_of}
 use Rattle.pf_cover.specs.declared.corner.Axis.{Axis}

@@ -1,7 +1,7 @@
 -- When one rule covers another (pf.conf(5), "set ruleset-optimization": a rule that is a subset of another rule is
 -- removed). It is told criterion by criterion, by the rules' text alone: what a table or an interface has at the
 -- moment plays no part.
-use Rattle.std.specs.Prelude.{ℕ, List, [], ◌∷◌, Bool, true, false, not, ◌&&◌, ◌||◌, Option, Some, None}
+use Rattle.std.specs.Prelude.{List, [], ◌∷◌, Bool, true, false, not, ◌&&◌, ◌||◌, Option, Some, None}
 use Rattle.pf_addr.specs.Stretch.{encloses, prefix_stretch, range_stretch}
 use Rattle.pf_addr.specs.declared.stretch.Stretch.{Stretch}
 use Rattle.pf_base.specs.Equality.{Equality, numbers, truths}

@@ -1,5 +1,5 @@
 -- A list of corners by their low ends, with the jumps by which deep ones are passed over, and what it tells.
-use Rattle.std.specs.Prelude.{◌≡◌, ℕ, ◌<◌, ◌≤◌, List, Bool, length, map, slice_index_or}
+use Rattle.std.specs.Prelude.{ℕ, ◌<◌, ◌≤◌, List, Bool, length, map, slice_index_or}
 use Rattle.std.specs.List.Sorted.{IsNonDecreasingBy, IsPermutation}
 use Rattle.pf_cover.specs.Corner.{corner_at}
 use Rattle.pf_cover.specs.Kept.{drops, is_dropped, placed}

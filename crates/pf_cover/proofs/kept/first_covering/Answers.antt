@@ -1,4 +1,4 @@
-use Rattle.std.proofs.Common.{sym, ap, ◌∙◌}
+use Rattle.std.proofs.Common.{sym}
 use Rattle.pf_cover.proofs.Giving.{found_place, past_end}
 use Rattle.pf_cover.proofs.kept.first_covering.Goals as goal
 

@@ -1,6 +1,5 @@
-use Rattle.std.proofs.Common.{ℕ, ◌≡◌, ◌<◌, ◌≤◌, List, length, set, get_or, sym, ap, ◌∙◌, ◌+◌, arith}
+use Rattle.std.proofs.Common.{ℕ, ◌<◌, ◌≤◌, length, set, get_or, sym, ap, ◌∙◌, ◌+◌, arith}
 use Rattle.std.proofs.lemmas.List.{get_or_read, set_past}
-use Rattle.std.proofs.lemmas.List.Sums.{get_or-le-sum_by}
 use Rattle.pf_cover.proofs.Giving.{given_set, raised}
 use Rattle.pf_cover.proofs.kept.give.Goals as goal
 

@@ -1,4 +1,4 @@
-use Rattle.std.proofs.Common.{◌≡◌, ◌≤◌, ◌<◌, ℕ, List, [], ◌∷◌, Bool, true, cond, ◌+◌, length, sum, get_or, drop, sym, ap, ◌∙◌, subst, arith}
+use Rattle.std.proofs.Common.{◌≡◌, ◌≤◌, ℕ, List, ◌∷◌, Bool, true, cond, ◌+◌, length, sum, get_or, drop, sym, ap, ◌∙◌, subst, arith}
 use Rattle.std.specs.List.{fold, zip}
 use Rattle.pf_rule.specs.declared.rule.Rule.{Rule}
 use Rattle.pf_cover.specs.Kept.{dropped_weighed, given_to_first, is_dropped, own_weights, placed}
