@@ -8,3 +8,5 @@ pub mod Spans
 pub mod Forming
 pub mod Naming
 pub mod Bare
+pub mod OnePath
+pub mod OneMeaning

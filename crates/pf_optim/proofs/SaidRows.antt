@@ -24,7 +24,7 @@ nothing_said entries e =
     subst P (sym e) (record { said = tt; apart = tt })
 
 -- a line more, which is passed over or not
-filter_append : {X : Type 0} (test : X → Bool) (xs ys : List X) → filter test (xs ++ ys) ≡ filter test xs ++ filter test ys
+pub filter_append : {X : Type 0} (test : X → Bool) (xs ys : List X) → filter test (xs ++ ys) ≡ filter test xs ++ filter test ys
 filter_append test [] ys = refl
 filter_append test (x ∷ xs) ys = cases (test x) (filter_append test xs ys)
   where
@@ -43,11 +43,11 @@ passed_over before line rows e say =
     record { said = subst P (sym (said_more before line true e ∙ append-nil (said_lines before))) say.said; apart = say.apart }
 
 -- a row more, about what no row before it is about
-either : (a b : Bool) → (a || b) ≡ false → (a ≡ false) × (b ≡ false)
+pub either : (a b : Bool) → (a || b) ≡ false → (a ≡ false) × (b ≡ false)
 either true b e = absurd (false≢true (sym e))
 either false b e = (refl, e)
 
-neither : (a b : Bool) → a ≡ false → b ≡ false → (a || b) ≡ false
+pub neither : (a b : Bool) → a ≡ false → b ≡ false → (a || b) ≡ false
 neither a b e h = ap (λ (t : Bool). t || b) e ∙ h
 
 any_more : {X : Type 0} (test : X → Bool) (xs : List X) (x : X) → list_any test xs ≡ false → test x ≡ false → list_any test (xs ++ x ∷ []) ≡ false
@@ -59,7 +59,7 @@ any_more test (y ∷ ys) x none e =
 abbrev places : Equality (List (List ℕ) × ℕ)
 places = pairs (lists (lists numbers)) numbers
 
-about_turned : (one other : Row) → is_about one.path one.place other ≡ false → is_about other.path other.place one ≡ false
+pub about_turned : (one other : Row) → is_about one.path one.place other ≡ false → is_about other.path other.place one ≡ false
 about_turned one other e = cases (is_about other.path other.place one) refl
   where
     cases : (b : Bool) → is_about other.path other.place one ≡ b → b ≡ false

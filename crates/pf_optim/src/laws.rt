@@ -5,6 +5,8 @@ ghost use Rattle.pf_auto.specs.Standing.{StandFor, names_between};
 ghost use Rattle.pf_base.specs.declared.kind.Level.{Level};
 ghost use Rattle.pf_optim.specs.Meaning.{KeepsTheWalk, KeepsWalks, WalksRules, are_written};
 ghost use Rattle.pf_optim.specs.Optimised.{block_optimised, optimised, rules_in};
+ghost use Rattle.pf_optim.specs.Profile.{IsFaultAt, IsProfileText};
+ghost use Rattle.pf_optim.specs.declared.rows.Row.{Row};
 ghost use Rattle.pf_rule.specs.Around.{Around};
 ghost use Rattle.pf_rule.specs.Effect.{is_anchor};
 ghost use Rattle.pf_rule.specs.Equal.{effects};
@@ -87,3 +89,10 @@ pub fn optimised_rules_name_their_tables()
     orders_hold_the_same_rules();
     runs_are_the_longest::<(Rule, u64)>();
 }
+
+/// A text is a profile with one list of rows or has its first fault in one line, and never both.
+pub fn profiles_have_one_meaning()
+    ensures rows { (text : List ℕ) (rows others : List Row) → IsProfileText text rows → IsProfileText text others → rows ≡ others }
+    ensures line { (text : List ℕ) (line other : ℕ) → IsFaultAt text line → IsFaultAt text other → line ≡ other }
+    ensures apart { (text : List ℕ) (rows : List Row) (line : ℕ) → IsProfileText text rows → IsFaultAt text line → ⊥ }
+{}

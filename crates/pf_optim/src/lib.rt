@@ -17,7 +17,7 @@ mod skip;
 pub use fault::ProfileFault;
 pub use laws::{
     blocks_act_once, optimised_rules_mean_the_same, optimised_rules_name_their_tables,
-    optimised_rules_walk_alike,
+    optimised_rules_walk_alike, profiles_have_one_meaning,
 };
 pub use node::Node;
 pub use pf_base::Level;
