@@ -1,0 +1,6 @@
+pub mod Answering
+pub mod Combined
+pub mod Examples
+pub mod Firsts
+pub mod Loops
+pub mod OneThing

@@ -1,0 +1,6 @@
+use Rattle.std.proofs.Common.{◌≡◌, take, map, filter, ◌++◌}
+use Rattle.pf_expand.specs.declared.member.Member.TheVariants as members
+use Rattle.pf_expand.proofs.lists.protos.Given as goal
+
+abbrev pub invariant-loop-value : goal.invariant-loop-value
+invariant-loop-value l = l.list ≡ map members.Proto (take l.value-index l.values)

@@ -1,0 +1,20 @@
+//! Laws of the definitions, for the crates above: a caller of a law has its clauses.
+ghost use Rattle.std.specs.Prelude.{◌≡◌, ℕ, List, Result};
+ghost use Rattle.pf_base.specs.declared.fault.FaultKind.{FaultKind as Fault};
+ghost use Rattle.pf_form.specs.declared.form.RuleForm.{RuleForm};
+ghost use Rattle.pf_host.specs.Facts.{HostFacts};
+ghost use Rattle.pf_parts.specs.declared.call.Call.{Call};
+ghost use Rattle.pf_rule.specs.declared.rule.Rule.{Rule};
+ghost use Rattle.pf_expand.specs.Expansion.{Expands};
+ghost use Rattle.pf_expand.specs.declared.order.Defaults.{Defaults as Policies};
+ghost use Rattle.pf_expand.specs.declared.order.Order.{Order as First};
+
+use pf_word::words_have_one_meaning;
+
+/// A statement comes to one thing alone: its first rules, or one fault.
+pub fn a_statement_comes_to_one_thing()
+    ensures { (form : RuleForm) (call : Call) (order : First) (facts : HostFacts) (defaults : Policies) (room : ℕ) (answer other : Result (List Rule) Fault)
+        → Expands form call order facts defaults room answer → Expands form call order facts defaults room other → answer ≡ other }
+{
+    words_have_one_meaning();
+}

@@ -1,0 +1,226 @@
+//! What a statement comes to (pf.conf(5), lists).
+ghost use Rattle.std.specs.Prelude.{◌≡◌, ◌≤◌, ◌++◌, length, take, IfOk};
+ghost use Rattle.std.specs.List.{slice_get};
+ghost use Rattle.pf_word.specs.Coming.{Comes};
+ghost use Rattle.pf_expand.specs.Combinations.{combined};
+ghost use Rattle.pf_expand.specs.Expansion as says;
+ghost use Rattle.pf_expand.specs.Expansion.{Expands, HasWords};
+ghost use Rattle.pf_expand.specs.Lists.{is_empty};
+ghost use Rattle.pf_expand.specs.Antispoof.{of_tests};
+ghost use Rattle.pf_expand.specs.Rules as rules;
+
+use crate::antispoof::add_tests;
+use crate::combine::combine;
+use crate::faults::first_fault;
+use crate::lists::{are_one, lists_of, written_families};
+use crate::member::Member;
+use crate::order::{Defaults, Order};
+use crate::readings::{Readings, faults_of_words, read_words};
+use crate::rules::{effect_of, rules_of, start_of};
+use pf_base::{Family, FaultKind, List, NoMemory};
+use pf_form::{Head, RuleForm};
+use pf_host::Facts;
+use pf_parts::Call;
+use pf_rule::{Criteria, Rule};
+use pf_word::ExpandFault;
+use std::alloc::Global;
+
+fn first_family(families: &[Family]) -> Option<Family>
+    ensures { result ≡ slice_get families.now 0 }
+{
+    families.first().copied()
+}
+
+// The first combinations of lists, behind families that the statement names as a whole.
+fn combinations(
+    alloc: Global,
+    room: usize,
+    families: &[Family],
+    start: &Criteria,
+    lists: &[List<Member>],
+) -> Result<List<Criteria>, NoMemory>
+    ensures { IfOk result (λ found. found ≡ take room (combined families.now start.now lists.now)) }
+{
+    let mut found = List::new(alloc);
+    if !are_one(families) {
+        return Ok(found);
+    }
+    combine(&mut found, room, first_family(families), start, lists)?;
+    Ok(found)
+}
+
+// The first combinations of the lists of a form.
+fn of_lists(
+    alloc: Global,
+    form: &RuleForm,
+    room: usize,
+    read: &Readings,
+) -> Result<List<Criteria>, NoMemory>
+    ensures { IfOk result (λ found. found ≡ take room (combined (says.written_families form.now read.now)
+        (rules.start_of form.now) (says.lists_of form.now read.now))) }
+{
+    let families = written_families(alloc, form, read)?;
+    let lists = lists_of(alloc, form, read)?;
+    combinations(
+        alloc,
+        room,
+        families.items(),
+        &start_of(form),
+        lists.items(),
+    )
+}
+
+// The first criteria of an antispoof.
+fn of_antispoof(
+    alloc: Global,
+    form: &RuleForm,
+    room: usize,
+    facts: &Facts,
+) -> Result<List<Criteria>, NoMemory>
+    ensures { IfOk result (λ found. found ≡ take room (of_tests facts.now form.now.family (rules.start_of form.now) form.now.ifaces)) }
+{
+    let mut found = List::new(alloc);
+    add_tests(
+        &mut found,
+        alloc,
+        room,
+        facts,
+        form.family,
+        &start_of(form),
+        form.ifaces.items(),
+    )?;
+    Ok(found)
+}
+
+// The first criteria of the rules of a form.
+fn criteria_of(
+    alloc: Global,
+    form: &RuleForm,
+    room: usize,
+    facts: &Facts,
+    read: &Readings,
+) -> Result<List<Criteria>, NoMemory>
+    ensures { IfOk result (λ found. found ≡ take room (says.all_criteria facts.now form.now read.now form.now.head)) }
+{
+    match &form.head {
+        Head::Antispoof => of_antispoof(alloc, form, room, facts),
+        Head::Pass | Head::Block(_) | Head::Match => of_lists(alloc, form, room, read),
+        Head::Anchor { .. } => of_lists(alloc, form, room, read),
+        Head::LoadAnchor { .. } => Ok(List::new(alloc)),
+    }
+}
+
+fn makes_rules(head: &Head) -> bool
+    ensures { result ≡ says.makes_rules head.now }
+{
+    match head {
+        Head::Pass | Head::Block(_) | Head::Match => true,
+        Head::Anchor { .. } | Head::Antispoof => true,
+        Head::LoadAnchor { .. } => false,
+    }
+}
+
+fn are_none(found: &[Criteria]) -> bool
+    ensures { result ≡ is_empty found.now }
+{
+    found.is_empty()
+}
+
+// Whether the form makes rules, and none is left.
+fn lacks_rules(
+    alloc: Global,
+    form: &RuleForm,
+    facts: &Facts,
+    read: &Readings,
+) -> Result<bool, NoMemory>
+    ensures { IfOk result (λ none. none ≡ says.lacks_rules facts.now form.now read.now) }
+{
+    let first = criteria_of(alloc, form, 1, facts, read)?;
+    Ok(makes_rules(&form.head) && are_none(first.items()))
+}
+
+// The fault of a form whose words mean this.
+fn fault_of(
+    alloc: Global,
+    form: &RuleForm,
+    order: Order,
+    facts: &Facts,
+    read: &Readings,
+) -> Result<Option<FaultKind>, NoMemory>
+    ensures { IfOk result (λ fault. fault ≡ says.fault_of facts.now order form.now read.now) }
+{
+    let faults = faults_of_words(alloc, form, order, facts, read)?;
+    let none = lacks_rules(alloc, form, facts, read)?;
+    Ok(first_fault(form, read.protos.values.items(), faults.items(), none))
+}
+
+// The first rules of a form whose words mean this.
+fn first_rules(
+    alloc: Global,
+    form: &RuleForm,
+    call: &Call,
+    facts: &Facts,
+    defaults: &Defaults,
+    room: u32,
+    read: &Readings,
+) -> Result<List<Rule>, NoMemory>
+    ensures { IfOk result (λ rules. rules ≡ says.rules_of facts.now form.now call.now defaults.now room read.now) }
+{
+    let found = criteria_of(alloc, form, room as usize, facts, read)?;
+    let effect = effect_of(
+        form,
+        call,
+        defaults,
+        read.nat.values.items(),
+        read.rdr.values.items(),
+    );
+    rules_of(alloc, form, &effect, found.items())
+}
+
+// What a form comes to whose words mean this.
+fn answer(
+    alloc: Global,
+    form: &RuleForm,
+    call: &Call,
+    order: Order,
+    facts: &Facts,
+    defaults: &Defaults,
+    room: u32,
+    read: &Readings,
+) -> Result<List<Rule>, ExpandFault>
+    ensures { Comes (λ answer. answer ≡ says.answer_with (says.fault_of facts.now order form.now read.now)
+        (says.rules_of facts.now form.now call.now defaults.now room read.now)) result }
+{
+    match fault_of(alloc, form, order, facts, read)? {
+        Some(fault) => Err(ExpandFault::Kind(fault)),
+        None => {
+            let rules = first_rules(alloc, form, call, facts, defaults, room, read)?;
+            Ok(rules)
+        }
+    }
+}
+
+/// The first `room` rules that a form comes to, or its first fault. There is a rule for each combination of one member of each
+/// list, nested in the order interface, protocol, ICMP type, source, source port, target, target port, user, group, without the
+/// combinations of which two members name different families; the written family and those of translated addresses count. Each
+/// rule of an anchor form has the call. `defaults` are the policies of the moment, and `order` says which of two options of the
+/// statement stands first, where words of both may have a fault of one kind. Of several faults the first in the order of
+/// [`FaultKind`] is answered, with the first word of the statement that has it: NotAnAddress, MaskTooLong, FamilyMismatch,
+/// NoCombination (every word has a meaning, and no rule is left), UnknownInterface, UnknownService, UnknownProto,
+/// PortNeedsTcpUdp, BadPort, IcmpNeedsProto, BadIcmpType, FlagsNeedTcp, UnknownUser, RstNeedsTcp, TableName (pf.conf(5), lists,
+/// PARAMETERS, TRANSLATION and "antispoof").
+pub fn expand(
+    alloc: Global,
+    form: &RuleForm,
+    call: &Call,
+    order: Order,
+    facts: &Facts,
+    defaults: &Defaults,
+    room: u32,
+) -> Result<List<Rule>, ExpandFault>
+    requires { HasWords form.now }
+    ensures { Comes (Expands form.now call.now order facts.now defaults.now room) result }
+{
+    let read = read_words(alloc, form, facts)?;
+    answer(alloc, form, call, order, facts, defaults, room, &read)
+}
