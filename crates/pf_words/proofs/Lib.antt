@@ -1,0 +1,2 @@
+mod ByClap
+mod Examples

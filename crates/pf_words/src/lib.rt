@@ -1,0 +1,13 @@
+//! The words of the program (pfctl(8), SYNOPSIS), read by clap as one simple command: -f with its options, -S, or -g.
+//! It stands on pf_base and clap. The program asks for them once, and does what they say.
+#![tactic(auto)]
+
+mod command;
+pub mod reading;
+pub mod said;
+
+pub use reading::read_words;
+pub use said::{LoadWords, Said, WordsFault};
+
+#[cfg(test)]
+mod tests;
