@@ -1,12 +1,13 @@
 -- The first item that has a test, given the items before it.
-use Rattle.std.proofs.Common.{◌≡◌, ℕ, ◌+◌, ◌<◌, ◌≤◌, Bool, true, false, List, length, take, Option, Some, None, refl, ap, sym, subst, ◌∙◌, arith, inl, inr}
-use Rattle.std.specs.Prelude.{slice_get, Result, Err}
+use Rattle.std.proofs.Common.{◌≡◌, ℕ, zero, suc, ◌+◌, ◌<◌, ◌≤◌, Bool, true, false, List, length, take, Option, Some, None, refl, ap, sym, subst, ◌∙◌, arith, inl, inr}
+use Rattle.std.specs.Prelude.{slice_get, Result, Ok, Err}
 use Rattle.std.proofs.lemmas.Bool.{cases_lt, cases_order}
-use Rattle.std.proofs.lemmas.Option.{slice_get_within}
+use Rattle.std.proofs.lemmas.Option.{slice_get_cases, slice_get_within}
 use Rattle.pf_decl.specs.declared.check.QueueFault.{QueueFault}
 use Rattle.pf_decl.specs.declared.check.UsedQueue.{UsedQueue}
 use Rattle.pf_decl.specs.declared.form.Queue.{Queue}
 use Rattle.pf_decl.specs.Checks.{HoldsOfNone, IsFirst, Judged, twice, orphan, unknown, fine, is_twice, is_orphan, is_unknown, twice_at, orphan_at, unknown_at}
+use Rattle.pf_decl.specs.Coming.{HasJudgement}
 
 -- no item below has it
 pub record FailsBelow {A : Type 0} (test : List A → A → Bool) (items : List A) (i : ℕ) : Type 0 where
@@ -80,3 +81,43 @@ judged_once queues used one two (fine n m k) (twice {queue = r} b) = absurd (non
 judged_once queues used one two (fine n m k) (orphan {queue = r} l b) = absurd (none_first is_orphan queues r m b)
 judged_once queues used one two (fine n m k) (unknown {one = r} l e b) = absurd (none_first (is_unknown queues) used r k b)
 judged_once queues used one two (fine n m k) (fine l e f) = refl
+
+-- some item is the first that has it, or none has it
+data FirstOrNone {A : Type 0} (test : List A → A → Bool) (items : List A) : Type 0 where
+  some_has : {item : A} → IsFirst test items item → FirstOrNone test items
+  none_has : HoldsOfNone test items → FirstOrNone test items
+
+here_or_later : {A : Type 0} (test : List A → A → Bool) (items : List A) (i : ℕ) (item : A)
+    → FailsBelow test items i → slice_get items i ≡ Some item → (FailsBelow test items (i + 1) → FirstOrNone test items)
+    → (b : Bool) → test (take i items) item ≡ b → FirstOrNone test items
+here_or_later test items i item below here later true holds = some_has (first_here test items i item below here holds)
+here_or_later test items i item below here later false fails = later (one_more test items i item below here fails)
+
+-- the search goes on with at most `n` items
+search_from : {A : Type 0} (test : List A → A → Bool) (items : List A) (n i : ℕ) → length items ≤ i + n → FailsBelow test items i → FirstOrNone test items
+search_from test items zero i bound below = none_has (all_below test items i below (omega arith))
+search_from test items (suc n) i bound below =
+    elim (slice_get_cases items i).1 [
+      | inl found ↦ here_or_later test items i found.0 below found.2 (λ next. search_from test items n (i + 1) (omega arith) next) (test (take i items) found.0) refl
+      | inr past ↦ none_has (all_below test items i below past.0)
+    ]
+
+first_or_none : {A : Type 0} (test : List A → A → Bool) (items : List A) → FirstOrNone test items
+first_or_none test items = search_from test items (length items) 0 (omega arith) (none_below test items)
+
+module _ (queues : List Queue) (used : List UsedQueue) where
+  by_uses : HoldsOfNone is_twice queues → HoldsOfNone is_orphan queues → FirstOrNone (is_unknown queues) used → HasJudgement queues used
+  by_uses n m (some_has {item = item} first) = record { answer = Err (unknown_at item); judged = unknown n m first }
+  by_uses n m (none_has k) = record { answer = Ok tt; judged = fine n m k }
+
+  by_parents : HoldsOfNone is_twice queues → FirstOrNone is_orphan queues → HasJudgement queues used
+  by_parents n (some_has {item = item} first) = record { answer = Err (orphan_at item); judged = orphan n first }
+  by_parents n (none_has m) = by_uses n m (first_or_none (is_unknown queues) used)
+
+  by_names : FirstOrNone is_twice queues → HasJudgement queues used
+  by_names (some_has {item = item} first) = record { answer = Err (twice_at item); judged = twice first }
+  by_names (none_has n) = by_parents n (first_or_none is_orphan queues)
+
+  -- queues are judged in some way
+  pub some_judgement : HasJudgement queues used
+  some_judgement = by_names (first_or_none is_twice queues)

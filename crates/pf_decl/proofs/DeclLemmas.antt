@@ -6,6 +6,7 @@ use Rattle.pf_syntax.specs.Symbols.{Symbols, is_end, symbols}
 use Rattle.pf_syntax.specs.declared.fault.FormFault.{FormFault}
 use Rattle.pf_syntax.specs.declared.fault.FormFault.TheVariants.{Syntax, Unsupported, StateOptions, AnchorEffect, BadFlags, NoMemory}
 use Rattle.pf_decl.specs.declared.form.Decl.{Decl}
+use Rattle.pf_decl.specs.Coming.{DeclaresOrNot, declares, refused as refused_with}
 use Rattle.pf_decl.specs.Decls.{declaration, place_of, IsDecl, RefusesDecl}
 
 abbrev decl_in : Decl → Option (Decl × Symbols) → Decl
@@ -72,3 +73,12 @@ refused tokens body NoMemory is none = tt
 pub one_decl : (tokens : List Token) (body : Bool) (decl other : Decl) → IsDecl tokens body decl → IsDecl tokens body other → decl ≡ other
 one_decl tokens body decl other is same =
     decl_only tokens body decl other [] ((declaration body (place_of tokens)).exact.found (symbols tokens) decl [] is) same
+
+by_reading : (tokens : List Token) (body : Bool) (o : Option (Decl × Symbols)) → (declaration body (place_of tokens)).reads (symbols tokens) ≡ o → DeclaresOrNot tokens body
+by_reading tokens body None said = refused_with (outside_fault (symbols tokens)) (record { none = none_outside tokens body said; refused = refl })
+by_reading tokens body (Some (decl, [])) said = declares decl (decl_found tokens body decl [] said refl)
+by_reading tokens body (Some (decl, symbol ∷ rest)) said = refused_with (outside_fault (symbols tokens)) (record { none = none_before_more tokens body decl (symbol ∷ rest) said refl; refused = refl })
+
+-- tokens declare something or are refused
+pub declares_or_not : (tokens : List Token) (body : Bool) → DeclaresOrNot tokens body
+declares_or_not tokens body = by_reading tokens body ((declaration body (place_of tokens)).reads (symbols tokens)) refl

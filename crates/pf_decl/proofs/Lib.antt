@@ -7,3 +7,5 @@ mod ReadingBack
 mod Examples
 mod MadeSettings
 mod FileTokens
+mod Keeping
+mod TableWords

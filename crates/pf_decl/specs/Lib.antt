@@ -6,3 +6,5 @@ pub mod Queues
 pub mod Decls
 pub mod Checks
 pub mod ReadBack
+pub mod Coming
+pub mod Bytes

@@ -2,6 +2,7 @@
 ghost use Rattle.std.specs.Prelude.{◌≡◌, List, MatchOption, Result};
 ghost use Rattle.pf_decl.specs.Checks as says;
 ghost use Rattle.pf_decl.specs.Checks.{HoldsOfNone, IsFirst, Judged};
+ghost use Rattle.pf_decl.specs.Coming.{HasJudgement};
 ghost use Rattle.pf_decl.specs.declared.check.QueueFault.{QueueFault as AnyFault};
 ghost use Rattle.pf_decl.specs.declared.check.UsedQueue.{UsedQueue as AnyUse};
 ghost use Rattle.pf_decl.specs.declared.form.Queue.{Queue as AnyQueue};
@@ -138,4 +139,9 @@ pub fn check_queues(queues: &[Queue], used: &[UsedQueue]) -> Result<(), QueueFau
 /// A law: queues and their uses are judged in one way alone.
 pub fn queues_are_judged_once()
     ensures { (queues : List AnyQueue) (used : List AnyUse) (one two : Result (Unit {0}) AnyFault) → Judged queues used one → Judged queues used two → one ≡ two }
+{}
+
+/// A law: queues and their uses are judged in some way.
+pub fn queues_are_judged()
+    ensures { (queues : List AnyQueue) (used : List AnyUse) → HasJudgement queues used }
 {}

@@ -3,6 +3,7 @@ ghost use Rattle.std.specs.Prelude.{◌≡◌, ◌⊎◌, Bool, List, Ok, Err, I
 ghost use Rattle.pf_token.specs.declared.token.Token.{Token as AnyToken};
 ghost use Rattle.pf_syntax.specs.Taking.{Takes};
 ghost use Rattle.pf_decl.specs.declared.form.Decl.{Decl as AnyDecl};
+ghost use Rattle.pf_decl.specs.Coming.{DeclaresOrNot};
 ghost use Rattle.pf_decl.specs.Decls as says;
 ghost use Rattle.pf_decl.specs.Decls.{IsDecl, RefusesDecl};
 
@@ -90,4 +91,9 @@ pub fn parse_decl(alloc: Global, tokens: &[Token], body: bool) -> Result<Decl, F
 /// A law: tokens have at most one declaration.
 pub fn tokens_have_one_declaration()
     ensures { (tokens : List AnyToken) (body : Bool) (decl other : AnyDecl) → IsDecl tokens body decl → IsDecl tokens body other → decl ≡ other }
+{}
+
+/// A law: tokens declare something, or they declare nothing and are refused.
+pub fn tokens_declare_or_are_refused()
+    ensures { (tokens : List AnyToken) (body : Bool) → DeclaresOrNot tokens body }
 {}

@@ -14,11 +14,13 @@ pub mod queue;
 pub mod read_back;
 pub mod setting;
 pub mod table;
+mod words;
 
-pub use check::{QueueFault, UsedQueue, check_queues, queues_are_judged_once};
-pub use decl::{parse_decl, tokens_have_one_declaration};
+pub use check::{QueueFault, UsedQueue, check_queues, queues_are_judged, queues_are_judged_once};
+pub use decl::{parse_decl, tokens_declare_or_are_refused, tokens_have_one_declaration};
 pub use form::{Bandwidth, Burst, Decl, OptionLine, Queue, SetForm, Setting, TableForm, TableItem};
 pub use read_back::shown_lines_read_back;
+pub use words::tables_have_words;
 
 #[cfg(test)]
 mod tests;

@@ -31,7 +31,7 @@ dollar_least false = omega arith
 abbrev Few : List Cell → ℕ → Type 0
 Few cells most = (dollars cells ≤ most) × (length cells ≤ most)
 
-cells_few : (place : Place) (text : List ℕ) → Few (cells_from place text) (length text)
+pub cells_few : (place : Place) (text : List ℕ) → Few (cells_from place text) (length text)
 unfolding cells_from
 cells_few place [] = (omega arith, omega arith)
 cells_few place (byte ∷ []) = let one = dollar_least (byte == 36) in (omega arith, omega arith)
@@ -42,12 +42,12 @@ cells_few place (byte ∷ next ∷ rest) = by_splice ((byte == 92) && (next == 1
   by_splice false far near = let one = dollar_least (byte == 36) in (omega (arith, near.0), omega (arith, near.1))
 
 -- what a disk answers, and what that says of its file
-data Looked (disk : Disk) (name : List ℕ) (reads : ReadSoFar) : Type 0 where
+pub data Looked (disk : Disk) (name : List ℕ) (reads : ReadSoFar) : Type 0 where
   none : disk name ≡ None → Looked disk name reads
   many : (number : ℕ) → look_up disk reads name ≡ too_large number → Looked disk name reads
   some : (number : ℕ) (bytes : List ℕ) → look_up disk reads name ≡ given number bytes → length bytes ≤ reads.left → Looked disk name reads
 
-looked : (disk : Disk) (name : List ℕ) (reads : ReadSoFar) → Looked disk name reads
+pub looked : (disk : Disk) (name : List ℕ) (reads : ReadSoFar) → Looked disk name reads
 looked disk name reads = by_held (disk name) refl where
   by_size : (bytes : List ℕ) → disk name ≡ Some bytes → (b : Bool) → nat_le (length bytes) (read_limit reads.left) ≡ b → Looked disk name reads
   by_size bytes is true fits =
@@ -74,31 +74,31 @@ is_read disk name reads = by_look (looked disk name reads) where
   by_look (some number bytes look few) = record { result = _; later = _; opens = opened look; is_true = tt }
 
 -- How much is left to do of a unit.
-dollars_below : List (List Cell) → ℕ
+unfoldable pub dollars_below : List (List Cell) → ℕ
 dollars_below [] = 0
 dollars_below (cells ∷ more) = dollars cells + dollars_below more
 
-cells_below : List (List Cell) → ℕ
+unfoldable pub cells_below : List (List Cell) → ℕ
 cells_below [] = 0
 cells_below (cells ∷ more) = 2 * length cells + 1 + cells_below more
 
-dollars_left : Standing → ReadSoFar → ℕ
+unfoldable pub dollars_left : Standing → ReadSoFar → ℕ
 dollars_left unit reads = dollars unit.top + dollars_below unit.below + reads.left
 
-cells_left : Standing → ReadSoFar → ℕ
+unfoldable pub cells_left : Standing → ReadSoFar → ℕ
 cells_left unit reads = 2 * length unit.top + cells_below unit.below + 2 * reads.left
 
-abbrev LeavesLess : Standing → ReadSoFar → Standing → ReadSoFar → Type 0
+abbrev pub LeavesLess : Standing → ReadSoFar → Standing → ReadSoFar → Type 0
 LeavesLess next later unit reads = IsBelow (dollars_left next later) (cells_left next later) (dollars_left unit reads) (cells_left unit reads)
 
 -- behind a statement of the innermost file
-top_less : (unit : Standing) (changed : Table) (after : List Cell) (reads : ReadSoFar) → IsLess after unit.top → LeavesLess (record { macros = changed; top = after; below = unit.below }) reads unit reads
+pub top_less : (unit : Standing) (changed : Table) (after : List Cell) (reads : ReadSoFar) → IsLess after unit.top → LeavesLess (record { macros = changed; top = after; below = unit.below }) reads unit reads
 unfolding dollars_left cells_left
 top_less unit changed after reads (inl p) = inl (omega arith)
 top_less unit changed after reads (inr p) = inr (omega (arith, p.0), omega (arith, p.1))
 
 -- a file's bytes are taken from those that may be read
-file_less : (unit : Standing) (changed : Table) (after cells : List Cell) (reads : ReadSoFar) (names : List (List ℕ)) (bytes : List ℕ) → IsLess after unit.top → dollars cells ≤ length bytes → length cells ≤ length bytes → length bytes ≤ reads.left
+pub file_less : (unit : Standing) (changed : Table) (after cells : List Cell) (reads : ReadSoFar) (names : List (List ℕ)) (bytes : List ℕ) → IsLess after unit.top → dollars cells ≤ length bytes → length cells ≤ length bytes → length bytes ≤ reads.left
     → LeavesLess (record { macros = changed; top = cells; below = after ∷ unit.below }) (record { names = names; left = reads.left - length bytes }) unit reads
 unfolding dollars_left cells_left dollars_below cells_below
 file_less unit changed after cells reads names bytes (inl p) few short fits = let taken : (reads.left - length bytes) + length bytes ≡ reads.left = omega arith in inl (omega arith)
@@ -107,7 +107,7 @@ file_less unit changed after cells reads names bytes (inr p) few short fits =
     inr (omega (arith, p.0), omega (arith, p.1))
 
 -- where a file ends, one file less is open
-end_less : (unit : Standing) (changed : Table) (next : List Cell) (more : List (List Cell)) (reads : ReadSoFar) → unit.below ≡ next ∷ more → LeavesLess (record { macros = changed; top = next; below = more }) reads unit reads
+pub end_less : (unit : Standing) (changed : Table) (next : List Cell) (more : List (List Cell)) (reads : ReadSoFar) → unit.below ≡ next ∷ more → LeavesLess (record { macros = changed; top = next; below = more }) reads unit reads
 unfolding dollars_left cells_left dollars_below cells_below
 end_less unit changed next more reads is = inr (omega (arith, ap dollars_below is), omega (arith, ap cells_below is))
 

@@ -16,3 +16,6 @@ pub mod StepLemmas
 pub mod StopLemmas
 pub mod ValueTexts
 pub mod Within
+pub mod Finishing
+pub mod WordLemmas
+pub mod NothingMore

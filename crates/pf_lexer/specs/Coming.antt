@@ -1,5 +1,5 @@
 -- That something comes of each file, each statement and each unit, and in which files it stands.
-use Rattle.std.specs.Prelude.{◌≡◌, ℕ, true, List, Option, Result, Ok, Err, IfOk, length}
+use Rattle.std.specs.Prelude.{◌≡◌, ℕ, ◌≤◌, true, List, Option, Some, Result, Ok, Err, IfOk, length}
 use Rattle.pf_source.specs.Disk.{AreAbsent, Disk}
 use Rattle.pf_token.specs.declared.cell.Cell.{Cell}
 use Rattle.pf_token.specs.declared.token.Lexeme.{Lexeme}
@@ -54,3 +54,10 @@ pub record LeadsWithin (answer : Answer) (next : Stage) (later : ReadSoFar) : Ty
   pub known : IsKnown (length later.names) next
   pub enough : answer ≡ Err faults.NoMemory → ⊥
   pub goes : IfOk answer (λ found. IsGoing next)
+
+-- A unit ends, however it is gone through: behind each statement that it hands out it ends too, also where other files were
+-- read in between, which only takes from the bytes that may still be read.
+pub data Finishes (disk : Disk) : Stage → ReadSoFar → Type 0 where
+  behind : {stage : Stage} {reads : ReadSoFar}
+      → ((statement : Statement) (next : Stage) (later latest : ReadSoFar) → Leads disk stage reads (Ok (Some statement)) next later → latest.left ≤ later.left → Finishes disk next latest)
+      → Finishes disk stage reads

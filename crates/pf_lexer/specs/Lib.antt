@@ -12,3 +12,4 @@ pub mod Stages
 pub mod Statements
 pub mod Taking
 pub mod Units
+pub mod Words

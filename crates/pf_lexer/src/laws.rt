@@ -1,15 +1,17 @@
 //! Laws of units, without code: something comes next, it is one thing, where it stands, and what a failed read stands for.
-ghost use Rattle.std.specs.Prelude.{◌≡◌, ℕ, List, Option, Result, length};
+ghost use Rattle.std.specs.Prelude.{◌≡◌, ℕ, List, [], Ok, Option, Result, Some, length};
 ghost use Rattle.pf_source.specs.Disk.{AreAbsent, Disk};
 ghost use Rattle.pf_token.specs.declared.cell.Cell.{Cell};
 ghost use Rattle.pf_lexer.specs.declared.fault.LexFault.{LexFault};
 ghost use Rattle.pf_token.specs.Macros.{Table};
 ghost use Rattle.pf_lexer.specs.Calls.{StandsIn, unread_in};
-ghost use Rattle.pf_lexer.specs.Coming.{HasLead, HasStatement, HasStatements, LeadsWithin, OpensWithin};
+ghost use Rattle.pf_lexer.specs.Coming.{Finishes, HasLead, HasStatement, HasStatements, LeadsWithin, OpensWithin};
 ghost use Rattle.pf_lexer.specs.Outages.{LeadsWithout, OpensWithout};
 ghost use Rattle.pf_lexer.specs.ReadSoFar.{ReadSoFar};
 ghost use Rattle.pf_lexer.specs.Stages.{Stage, Standing, going};
-ghost use Rattle.pf_lexer.specs.Units.{Answer, Leads, Opens};
+ghost use Rattle.pf_lexer.specs.Units.{Answer, Leads, Opens, start_in};
+ghost use Rattle.pf_lexer.specs.Words.{FoundHasBytes};
+ghost use Rattle.pf_lexer.specs.declared.deed.Statement.{Statement};
 
 use pf_token::{descents_end, next_is_one, next_stays_in, something_comes_next};
 
@@ -80,4 +82,27 @@ pub fn a_unit_has_statements()
     next_is_one();
     something_comes_next();
     descents_end();
+}
+
+/// Each word without quotes of a statement has at least one byte.
+pub fn statements_have_words()
+    ensures { (disk : Disk) (stage next : Stage) (reads later : ReadSoFar) (found : Option Statement) →
+        Leads disk stage reads (Ok found) next later → FoundHasBytes found }
+{}
+
+/// A unit ends, over each disk and wherever it stands.
+pub fn units_finish()
+    ensures { (disk : Disk) (stage : Stage) (reads : ReadSoFar) → Finishes disk stage reads }
+{
+    next_is_one();
+    something_comes_next();
+    descents_end();
+}
+
+/// A unit whose first file is empty has no statement.
+pub fn empty_files_say_nothing()
+    ensures { (disk : Disk) (macros : Table) (reads later : ReadSoFar) (next : Stage) (statement : Statement) →
+        Leads disk (start_in macros []) reads (Ok (Some statement)) next later → ⊥ }
+{
+    next_is_one();
 }

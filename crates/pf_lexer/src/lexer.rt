@@ -7,6 +7,7 @@ ghost use Rattle.pf_lexer.specs.ReadSoFar.{ReadSoFar};
 ghost use Rattle.pf_lexer.specs.Reads.{number_of};
 ghost use Rattle.pf_lexer.specs.Stages.{Stage};
 ghost use Rattle.pf_lexer.specs.Units.{Begins, Handed, Leads, UnitOf};
+ghost use Rattle.pf_lexer.specs.Words.{FoundHasBytes};
 ghost use Rattle.pf_lexer.specs.declared.deed.Statement.{Statement};
 ghost use Rattle.pf_lexer.specs.declared.fault.LexFault.{LexFault};
 
@@ -73,7 +74,8 @@ impl Lexer {
     }
 
     /// The next statement of the unit, or None at its end. Macro definitions and includes are carried out. `CannotRead`
-    /// comes only where the files' count of faults rose. After a fault the same fault comes again.
+    /// comes only where the files' count of faults rose. After a fault the same fault comes again. Each word without quotes
+    /// of a statement has at least one byte.
     pub fn next_statement<F: Files>(
         &mut self,
         alloc: Global,
@@ -89,6 +91,7 @@ impl Lexer {
         ensures known { self.new.known ≤ length reads.new.names }
         ensures goes { IfOk result (λ found. IsGoing self.new.stage) }
         ensures places { AnswersNumbered (length reads.new.names) result }
+        ensures words { IfOk result (λ found. FoundHasBytes found) }
         ensures lighter { IfOk result (λ found. OnSome found (stage_weight self.new.stage reads.new < stage_weight self.old.stage reads.old)) }
         ensures asks { AsksAndReads (unread_from self.old.stage result) (F.tells files.old) (F.tells files.new) reads.old reads.new }
     {

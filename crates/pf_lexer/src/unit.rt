@@ -8,6 +8,7 @@ ghost use Rattle.pf_lexer.specs.Going.{unit_weight, unopened, unread_for, IsCut,
 ghost use Rattle.pf_lexer.specs.Reads.{number_of};
 ghost use Rattle.pf_lexer.specs.Stages.{going, failed};
 ghost use Rattle.pf_lexer.specs.Units.{Leads, Opens};
+ghost use Rattle.pf_lexer.specs.Words.{FoundHasBytes, TurnHasBytes};
 
 use crate::deed::{Deed, Statement, take_statement};
 use crate::failure::Failure;
@@ -161,6 +162,7 @@ impl OpenUnit {
         ensures asks { AsksAndReads (unread_for result) (F.tells files.old) (F.tells files.new) reads.old reads.new }
         ensures within { IfOk result (λ turn. StandsIn (length reads.old.names) self.old → StandsIn (length reads.new.names) self.new) }
         ensures places { StandsIn (length reads.old.names) self.old → IsTurnNumbered (length reads.new.names) result }
+        ensures words { IfOk result (λ turn. TurnHasBytes turn) }
         ensures lighter { IfOk result (λ turn. IsLighterTurn turn (unit_weight self.new reads.new) (unit_weight self.old reads.old)) }
     {
         let includes = self.below.len();
@@ -192,6 +194,7 @@ impl OpenUnit {
         ensures asks { AsksAndReads (unread_for result) (F.tells files.old) (F.tells files.new) reads.old reads.new }
         ensures within { IfOk result (λ found. StandsIn (length reads.old.names) self.old → StandsIn (length reads.new.names) self.new) }
         ensures places { StandsIn (length reads.old.names) self.old → IsFoundNumbered (length reads.new.names) result }
+        ensures words { IfOk result (λ found. FoundHasBytes found) }
         ensures lighter { IfOk result (λ found. OnSome found (unit_weight self.new reads.new < unit_weight self.old reads.old)) }
     {
         loop {

@@ -8,6 +8,7 @@ use Rattle.pf_lexer.specs.declared.deed.Deed.TheVariants.{Nothing, Hands, Includ
 use Rattle.pf_lexer.proofs.GoingLemmas.{asks_answered, asks_nothing}
 use Rattle.pf_lexer.proofs.StepLemmas.{stopped_here, step_passed, step_hands, step_fails, step_leaves, step_over, step_included, step_stopped, top_in, still_in, over_in, entered_in, stands_more, goes_on_length}
 use Rattle.pf_lexer.proofs.StopLemmas.{answered_numbered}
+use Rattle.pf_lexer.proofs.WordLemmas.{does_full}
 use Rattle.pf_lexer.proofs.unit.OpenUnit.step.Goals as goal
 
 -- how many files wait
@@ -53,6 +54,9 @@ returns-in-Hands-clause-ok g c =
           step_hands (file_of held) c.self.inside.macros c.self.inside.top (reverse c.self.inside.below.items) c.args.self.now c.self.view_is c.len-includes.result (below_count c.self.inside.below.items c.self.inside.below.ok.0 c.len-includes.ensures)
           c.take_statement.new.macros c.take_statement.new.reader c.args.reads.now c.in-Hands.statement does;
     }
+
+pub returns-in-Hands-clause-words : goal.returns-in-Hands-clause-words
+returns-in-Hands-clause-words g c = let does = rw c.in-Hands.is at c.in_ok-take_statement.ensures.does in does_full does
 
 pub returns-in-Hands-clause-within : goal.returns-in-Hands-clause-within
 returns-in-Hands-clause-within g c = λ within.
