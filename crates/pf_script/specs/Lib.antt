@@ -1,0 +1,5 @@
+pub mod Command
+pub mod Grammar
+pub mod Laying
+pub mod Options
+pub mod Word
