@@ -4,3 +4,4 @@ pub mod Examples
 pub mod Firsts
 pub mod Loops
 pub mod OneThing
+pub mod Plain

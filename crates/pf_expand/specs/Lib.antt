@@ -7,3 +7,4 @@ pub mod Faults
 pub mod Rules
 pub mod Antispoof
 pub mod Expansion
+pub mod Written

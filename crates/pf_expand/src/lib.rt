@@ -15,6 +15,9 @@ pub mod readings;
 mod rules;
 pub mod statement;
 
-pub use laws::a_statement_comes_to_one_thing;
+pub use laws::{a_statement_comes_to_one_thing, expanded_rules_are_written};
 pub use order::{Defaults, Order};
 pub use statement::expand;
+
+#[cfg(test)]
+mod tests;
