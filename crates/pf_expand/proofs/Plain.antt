@@ -1,7 +1,7 @@
--- The rules of a statement are as they are written: they name no automatic table.
+-- No criteria of a statement name an automatic table.
 use Rattle.std.proofs.Common.{◌≡◌, ℕ, zero, suc, Bool, true, false, cond, List, [], ◌∷◌, ◌++◌, map, filter, take, Result, Ok, Err, Option, Some, None, if◌then◌else◌, refl, sym, ap, ◌∙◌, subst}
-use Rattle.std.specs.List.{All, AllZip, flat_map}
-use Rattle.std.proofs.lemmas.List.Elements.{All-cons, All-nil}
+use Rattle.std.specs.List.{AllZip, flat_map}
+use Rattle.pf_auto.specs.Standing.{test_names_between}
 use Rattle.pf_base.specs.declared.fault.FaultKind.{FaultKind}
 use Rattle.pf_base.specs.declared.fault.FaultKind.TheVariants as kinds
 use Rattle.pf_base.specs.declared.kind.Family.{Family}
@@ -12,14 +12,12 @@ use Rattle.pf_form.specs.declared.form.Head.TheVariants as heads
 use Rattle.pf_form.specs.declared.form.RuleForm.{RuleForm}
 use Rattle.pf_host.specs.Facts.{HostFacts}
 use Rattle.pf_host.specs.Queries.{in_group, is_meant, own_addresses}
-use Rattle.pf_parts.specs.declared.call.Call.{Call}
 use Rattle.pf_parts.specs.declared.matching.IfTest.{IfTest}
 use Rattle.pf_parts.specs.declared.matching.IfTest.TheVariants as ifaces
 use Rattle.pf_rule.specs.declared.criteria.AddrSet.TheVariants as sets
 use Rattle.pf_rule.specs.declared.criteria.AddrTest.{AddrTest}
 use Rattle.pf_rule.specs.declared.criteria.AddrTest.TheVariants as tests
 use Rattle.pf_rule.specs.declared.criteria.Criteria.{Criteria}
-use Rattle.pf_rule.specs.declared.rule.Rule.{Rule}
 use Rattle.pf_syntax.specs.declared.form.HostForm.{HostForm}
 use Rattle.pf_syntax.specs.declared.form.HostForm.TheVariants as forms
 use Rattle.pf_syntax.specs.declared.form.HostItem.{HostItem}
@@ -27,62 +25,21 @@ use Rattle.pf_word.specs.Hosts.{EndsMean, FormMeans, HostMeans, HostsMean, Range
 use Rattle.pf_word.specs.Suffixes.{taken_apart}
 use Rattle.pf_word.specs.Words.{failed, found, is_name, named}
 use Rattle.pf_word.specs.declared.words.Words.{Words}
-use Rattle.pf_expand.specs.Antispoof.{from_prefix, loopback, of_iface, of_name, of_test, of_tests, of_written, elsewhere}
-use Rattle.pf_expand.specs.Combinations.{combined, criteria_of, families, is_one, product}
-use Rattle.pf_expand.specs.Expansion.{Expands, all_criteria, answer_with, fault_of, list_if, lists_of, rules_of, written_families}
-use Rattle.pf_expand.specs.Members.{with_member, with_members}
+use Rattle.pf_combine.specs.Antispoof.{from_prefix, loopback, of_iface, of_name, of_test, of_tests, of_written, elsewhere}
+use Rattle.pf_combine.specs.Combinations.{combined, criteria_of, families, is_one, product}
+use Rattle.pf_expand.specs.Expansion.{all_criteria, list_if, lists_of, written_families}
+use Rattle.pf_combine.specs.Members.{with_member, with_members}
 use Rattle.pf_expand.specs.Readings.{AreReadings}
-use Rattle.pf_expand.specs.Rules.{effect_of, rule_of, start_of}
-use Rattle.pf_expand.specs.Written.{IsWritten, names_no_table}
-use Rattle.pf_expand.specs.declared.member.Member.{Member}
-use Rattle.pf_expand.specs.declared.member.Member.TheVariants as members
-use Rattle.pf_expand.specs.declared.order.Defaults.{Defaults}
-use Rattle.pf_expand.specs.declared.order.Order.{Order}
+use Rattle.pf_expand.specs.Rules.{start_of}
+use Rattle.pf_expand.proofs.Every.{Every, every_append, every_filter, every_flat, every_from, every_map, every_of_each}
+use Rattle.pf_combine.specs.declared.member.Member.{Member}
+use Rattle.pf_combine.specs.declared.member.Member.TheVariants as members
 use Rattle.pf_expand.specs.declared.readings.Readings.{Readings}
-
--- P holds of each item
-abbrev Every : {A : Type 0} → (A → Type 0) → List A → Type 0
-Every P [] = Unit {0}
-Every P (x ∷ xs) = P x × Every P xs
-
-every_is_all : {A : Type 0} (P : A → Type 0) (xs : List A) → Every P xs → All P xs
-every_is_all P [] h = All-nil P
-every_is_all P (x ∷ xs) h = All-cons P x xs h.0 (every_is_all P xs h.1)
-
-every_from : {A : Type 0} (P Q : A → Type 0) → ((a : A) → P a → Q a) → (xs : List A) → Every P xs → Every Q xs
-every_from P Q gives [] h = tt
-every_from P Q gives (x ∷ xs) h = (gives x h.0, every_from P Q gives xs h.1)
-
-every_of_each : {A : Type 0} (P : A → Type 0) → ((a : A) → P a) → (xs : List A) → Every P xs
-every_of_each P each [] = tt
-every_of_each P each (x ∷ xs) = (each x, every_of_each P each xs)
-
-every_append : {A : Type 0} (P : A → Type 0) (xs ys : List A) → Every P xs → Every P ys → Every P (xs ++ ys)
-every_append P [] ys h k = k
-every_append P (x ∷ xs) ys h k = (h.0, every_append P xs ys h.1 k)
-
-every_map : {A B : Type 0} (P : B → Type 0) (f : A → B) (xs : List A) → Every (λ x. P (f x)) xs → Every P (map f xs)
-every_map P f [] h = tt
-every_map P f (x ∷ xs) h = (h.0, every_map P f xs h.1)
-
-every_take : {A : Type 0} (P : A → Type 0) (n : ℕ) (xs : List A) → Every P xs → Every P (take n xs)
-every_take P zero xs h = tt
-every_take P (suc n) [] h = tt
-every_take P (suc n) (x ∷ xs) h = (h.0, every_take P n xs h.1)
-
-every_filter : {A : Type 0} (K : A → Bool) (P : A → Type 0) (xs : List A) → Every P xs → Every P (filter K xs)
-every_filter K P [] h = tt
-every_filter K P (x ∷ xs) h =
-    elim (K x) as (λ b. Every P (cond b (x ∷ filter K xs) (filter K xs))) [ true ↦ (h.0, every_filter K P xs h.1) | false ↦ every_filter K P xs h.1 ]
-
-every_flat : {A B : Type 0} (P : B → Type 0) (f : A → List B) → ((a : A) → Every P (f a)) → (xs : List A) → Every P (flat_map f xs)
-every_flat P f each [] = tt
-every_flat P f each (x ∷ xs) = every_append P (f x) (flat_map f xs) (each x) (every_flat P f each xs)
 
 -- ---- tests of hosts
 
-abbrev Plain : AddrTest → Type 0
-Plain test = names_no_table test ≡ true
+abbrev pub Plain : AddrTest → Type 0
+Plain test = test_names_between 0 0 test ≡ true
 
 plain_prefixes : (negated : Bool) (prefixes : List Prefix) → Every Plain (prefix_tests negated prefixes)
 plain_prefixes negated [] = tt
@@ -143,7 +100,7 @@ PlainMember (members.TargetPort ports) = Unit {0}
 PlainMember (members.User ids) = Unit {0}
 PlainMember (members.Group ids) = Unit {0}
 
-abbrev PlainCriteria : Criteria → Type 0
+abbrev pub PlainCriteria : Criteria → Type 0
 PlainCriteria criteria = Plain criteria.source × Plain criteria.target
 
 with_plain : (criteria : Criteria) (member : Member) → PlainCriteria criteria → PlainMember member → PlainCriteria (with_member criteria member)
@@ -225,7 +182,7 @@ plain_test : (facts : HostFacts) (written : Option Family) (start : Criteria) �
 plain_test facts written start h ifaces.Any = tt
 plain_test facts written start h (ifaces.On name negated) = every_flat PlainCriteria (of_iface facts written start) (plain_iface facts written start h) (filter (is_meant facts name) facts.interfaces)
 
--- ---- rules
+-- ---- statements
 
 module _ (facts : HostFacts) (form : RuleForm) (read : Readings) (are : AreReadings facts form read) where
   plain_start : PlainCriteria (start_of form)
@@ -234,27 +191,10 @@ module _ (facts : HostFacts) (form : RuleForm) (read : Readings) (are : AreReadi
   of_lists : Every PlainCriteria (combined (written_families form read) (start_of form) (lists_of form read))
   of_lists = plain_combined (written_families form read) (start_of form) (lists_of form read) plain_start (plain_lists facts form read are)
 
-  plain_criteria : (head : Head) → Every PlainCriteria (all_criteria facts form read head)
+  pub plain_criteria : (head : Head) → Every PlainCriteria (all_criteria facts form read head)
   plain_criteria heads.Antispoof = every_flat PlainCriteria (of_test facts form.family (start_of form)) (plain_test facts form.family (start_of form) plain_start) form.ifaces
   plain_criteria heads.Pass = of_lists
   plain_criteria (heads.Block kind) = of_lists
   plain_criteria heads.Match = of_lists
   plain_criteria (heads.Anchor name body) = of_lists
   plain_criteria (heads.LoadAnchor name file) = tt
-
-  plain_rules : (call : Call) (defaults : Defaults) (room : ℕ) → Every IsWritten (rules_of facts form call defaults room read)
-  unfolding rules_of
-  plain_rules call defaults room =
-      let give = rule_of form (effect_of form call defaults read.nat.values read.rdr.values) in
-      let some = take room (all_criteria facts form read form.head) in
-      every_map IsWritten give some
-      (every_from PlainCriteria (λ criteria. IsWritten (give criteria)) (λ criteria h. record { source = h.0; target = h.1; options = refl }) some
-      (every_take PlainCriteria room (all_criteria facts form read form.head) (plain_criteria form.head)))
-
-answered : (fault : Option FaultKind) (rules given : List Rule) → Ok rules ≡ answer_with fault given → rules ≡ given
-answered None rules given e = cc
-answered (Some fault) rules given e = absurd (cc)
-
-pub written_rules : (form : RuleForm) (call : Call) (order : Order) (facts : HostFacts) (defaults : Defaults) (room : ℕ) (rules : List Rule) → Expands form call order facts defaults room (Ok rules) → All IsWritten rules
-written_rules form call order facts defaults room rules h =
-    every_is_all IsWritten rules (subst (λ (r : List Rule). Every IsWritten r) (sym (answered (fault_of facts order form h.read) rules (rules_of facts form call defaults room h.read) h.gives)) (plain_rules facts form h.read h.are call defaults room))

@@ -1,21 +1,32 @@
--- What rules are as they are written: no test of an address names an automatic table, which only an optimiser makes, and
--- `floating` has done its work.
-use Rattle.std.specs.Prelude.{◌≡◌, Bool, true, false}
-use Rattle.pf_rule.specs.declared.criteria.AddrSet.TheVariants as sets
-use Rattle.pf_rule.specs.declared.criteria.AddrTest.{AddrTest}
-use Rattle.pf_rule.specs.declared.criteria.AddrTest.TheVariants as tests
+-- What the rules of a statement are like: each is of one family or of none.
+use Rattle.std.specs.Prelude.{Bool, false, not, List, ◌++◌, Option, Some, None}
+use Rattle.std.specs.List.{list_all}
+use Rattle.std.specs.Option.{option_map, option_to_list}
+use Rattle.pf_base.specs.declared.kind.Family.{Family}
+use Rattle.pf_combine.specs.Combinations.{is_same}
+use Rattle.pf_combine.specs.Members.{family_of_test}
+use Rattle.pf_ops.specs.declared.flags.IcmpType.{IcmpType}
+use Rattle.pf_rule.specs.declared.criteria.Criteria.{Criteria}
 use Rattle.pf_rule.specs.declared.rule.Rule.{Rule}
 
--- a test that names no automatic table
-abbrev pub names_no_table : AddrTest → Bool
-names_no_table tests.Any = true
-names_no_table (tests.Test negated (sets.Prefix prefix)) = true
-names_no_table (tests.Test negated (sets.Range range)) = true
-names_no_table (tests.Test negated (sets.Table name)) = true
-names_no_table (tests.Test negated (sets.Dynamic what)) = true
-names_no_table (tests.Test negated (sets.Auto number)) = false
+-- the family of an ICMP type
+abbrev pub icmp_family : IcmpType → Family
+icmp_family icmp = icmp.family
 
-pub record IsWritten (rule : Rule) : Type 0 where
-  pub source : names_no_table rule.criteria.source ≡ true
-  pub target : names_no_table rule.criteria.target ≡ true
-  pub options : rule.effect.options.floating ≡ false
+-- the families that a rule's ICMP type, source and target name
+abbrev pub tested_families : Criteria → List Family
+tested_families criteria =
+    option_to_list (option_map icmp_family criteria.icmp) ++ option_to_list (family_of_test criteria.source) ++ option_to_list (family_of_test criteria.target)
+
+-- the rule is of this family
+abbrev pub is_of : Option Family → Family → Bool
+is_of None family = false
+is_of (Some whole) family = is_same whole family
+
+-- each family that its tests name is the rule's
+abbrev pub is_of_one_family : Rule → Bool
+is_of_one_family rule = list_all (is_of rule.criteria.family) (tested_families rule.criteria)
+
+-- `floating` is off: it has done its work, against the state policy of the moment
+abbrev pub is_settled : Rule → Bool
+is_settled rule = not rule.effect.options.floating

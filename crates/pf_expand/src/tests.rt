@@ -18,8 +18,7 @@ const DEFAULTS: Defaults = Defaults {
     bound: false,
 };
 
-const FACTS: &[u8] =
-    b"interface em0\ninterface em1\ninterface lo0\naddress em0 192.0.2.10/24\naddress lo0 127.0.0.1/8\n";
+const FACTS: &[u8] = b"interface em1\n";
 
 fn name(text: &[u8]) -> Result<Name, Fail> {
     Ok(Name::new(text).ok_or("no name")?)
@@ -57,19 +56,6 @@ fn a_rule_for_each_protocol(rt: HostRuntime) -> Result<(), Fail> {
             rule.criteria.proto == Some(6)
         );
     }
-    Ok(())
-}
-
-// `antispoof for { em0 lo0 }`: a network and an address of em0, the network of lo0.
-#[test]
-fn networks_and_addresses(rt: HostRuntime) -> Result<(), Fail> {
-    let alloc = rt.alloc();
-    let facts = read_facts(alloc, FACTS)?;
-    let mut form = blank_form(alloc, Head::Antispoof);
-    form.ifaces.push_copy(&on(b"em0")?)?;
-    form.ifaces.push_copy(&on(b"lo0")?)?;
-    let rules = expand(alloc, &form, &here(), ORDER, &facts, &DEFAULTS, 10)?;
-    assert_eq!(rt; rules.items().len(), 3);
     Ok(())
 }
 
