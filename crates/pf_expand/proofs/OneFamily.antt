@@ -114,7 +114,7 @@ iface_tests facts written start none iface =
     let networks = of_written written (own_addresses facts iface true) in
     let addresses = of_written written (own_addresses facts iface false) in
     every_append Itself (map (from_prefix start (elsewhere iface)) networks) (if in_group facts loopback iface then [] else map (from_prefix start ifaces.Any) addresses)
-      (of_prefixes start (elsewhere iface) none networks) (unless start none addresses (in_group facts loopback iface))
+    (of_prefixes start (elsewhere iface) none networks) (unless start none addresses (in_group facts loopback iface))
 
 of_one_test : (facts : HostFacts) (written : Option Family) (start : Criteria) → ((whole : Option Family) → Tests whole start) → (test : IfTest) → Every Itself (of_test facts written start test)
 of_one_test facts written start none ifaces.Any = tt

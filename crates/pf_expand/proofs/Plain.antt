@@ -1,7 +1,6 @@
 -- No criteria of a statement name an automatic table.
 use Rattle.std.proofs.Common.{◌≡◌, ℕ, zero, suc, Bool, true, false, cond, List, [], ◌∷◌, ◌++◌, map, filter, take, Result, Ok, Err, Option, Some, None, if◌then◌else◌, refl, sym, ap, ◌∙◌, subst}
 use Rattle.std.specs.List.{AllZip, flat_map}
-use Rattle.pf_auto.specs.Standing.{test_names_between}
 use Rattle.pf_base.specs.declared.fault.FaultKind.{FaultKind}
 use Rattle.pf_base.specs.declared.fault.FaultKind.TheVariants as kinds
 use Rattle.pf_base.specs.declared.kind.Family.{Family}
@@ -31,6 +30,7 @@ use Rattle.pf_expand.specs.Expansion.{all_criteria, list_if, lists_of, written_f
 use Rattle.pf_combine.specs.Members.{with_member, with_members}
 use Rattle.pf_expand.specs.Readings.{AreReadings}
 use Rattle.pf_expand.specs.Rules.{start_of}
+use Rattle.pf_expand.specs.Written.{tests_no_auto}
 use Rattle.pf_expand.proofs.Every.{Every, every_append, every_filter, every_flat, every_from, every_map, every_of_each}
 use Rattle.pf_combine.specs.declared.member.Member.{Member}
 use Rattle.pf_combine.specs.declared.member.Member.TheVariants as members
@@ -39,7 +39,7 @@ use Rattle.pf_expand.specs.declared.readings.Readings.{Readings}
 -- ---- tests of hosts
 
 abbrev pub Plain : AddrTest → Type 0
-Plain test = test_names_between 0 0 test ≡ true
+Plain test = tests_no_auto test ≡ true
 
 plain_prefixes : (negated : Bool) (prefixes : List Prefix) → Every Plain (prefix_tests negated prefixes)
 plain_prefixes negated [] = tt
@@ -159,7 +159,7 @@ plain_lists facts form read are =
     let target_ports = plain_if form.target_ports (map members.TargetPort read.target_ports.values) (any_member members.TargetPort (λ a. tt) read.target_ports.values) in
     let users = plain_if form.users (map members.User read.users.values) (any_member members.User (λ a. tt) read.users.values) in
     let groups = plain_if form.groups (map members.Group read.groups.values) (any_member members.Group (λ a. tt) read.groups.values) in
-    two_lists _ _ ifaces (two_lists _ _ protos (two_lists _ _ icmp (two_lists _ _ sources (two_lists _ _ source_ports (two_lists _ _ targets (two_lists _ _ target_ports (two_lists _ _ users groups)))))))
+    two_lists _ _ (two_lists _ _ (two_lists _ _ (two_lists _ _ (two_lists _ _ (two_lists _ _ (two_lists _ _ (two_lists _ _ ifaces protos) icmp) sources) source_ports) targets) target_ports) users) groups
 
 -- ---- criteria of `antispoof`
 
@@ -176,7 +176,7 @@ plain_iface facts written start h iface =
     let networks = of_written written (own_addresses facts iface true) in
     let addresses = of_written written (own_addresses facts iface false) in
     every_append PlainCriteria (map (from_prefix start (elsewhere iface)) networks) (if in_group facts loopback iface then [] else map (from_prefix start ifaces.Any) addresses)
-      (plain_from start (elsewhere iface) h networks) (plain_unless start h addresses (in_group facts loopback iface))
+    (plain_from start (elsewhere iface) h networks) (plain_unless start h addresses (in_group facts loopback iface))
 
 plain_test : (facts : HostFacts) (written : Option Family) (start : Criteria) → PlainCriteria start → (test : IfTest) → Every PlainCriteria (of_test facts written start test)
 plain_test facts written start h ifaces.Any = tt

@@ -2,7 +2,6 @@
 use Rattle.std.proofs.Common.{◌≡◌, ℕ, ◌≤◌, Bool, true, List, length, map, take, Result, Ok, Err, Option, Some, None, refl, sym, ap, ◌∙◌, subst, arith}
 use Rattle.std.specs.List.{list_all}
 use Rattle.std.proofs.lemmas.List.{length-map, length-take}
-use Rattle.pf_auto.specs.Standing.{names_none, test_names_between}
 use Rattle.pf_base.specs.declared.fault.FaultKind.{FaultKind}
 use Rattle.pf_form.specs.declared.form.RuleForm.{RuleForm}
 use Rattle.pf_host.specs.Facts.{HostFacts}
@@ -12,7 +11,7 @@ use Rattle.pf_rule.specs.declared.rule.Rule.{Rule}
 use Rattle.pf_expand.specs.Expansion.{Expands, all_criteria, answer_with, fault_of, rules_of}
 use Rattle.pf_expand.specs.Readings.{AreReadings}
 use Rattle.pf_expand.specs.Rules.{effect_of, rule_of}
-use Rattle.pf_expand.specs.Written.{is_of_one_family, is_settled}
+use Rattle.pf_expand.specs.Written.{has_no_auto, is_of_one_family, is_settled, tests_no_auto}
 use Rattle.pf_expand.specs.declared.order.Defaults.{Defaults}
 use Rattle.pf_expand.specs.declared.order.Order.{Order}
 use Rattle.pf_expand.specs.declared.readings.Readings.{Readings}
@@ -33,9 +32,9 @@ module _ (facts : HostFacts) (form : RuleForm) (call : Call) (defaults : Default
   passed P test passes h =
       every_passes test (map give some) (every_map (λ rule. test rule ≡ true) give some (every_from P (λ criteria. test (give criteria) ≡ true) passes some (every_take P room (all_criteria facts form read form.head) h)))
 
-  name_none : AreReadings facts form read → list_all names_none (rules_of facts form call defaults room read) ≡ true
-  name_none are =
-      passed PlainCriteria names_none (λ criteria h. both (test_names_between 0 0 criteria.source) (test_names_between 0 0 criteria.target) h.0 h.1) (plain_criteria facts form read are form.head)
+  without_auto : AreReadings facts form read → list_all has_no_auto (rules_of facts form call defaults room read) ≡ true
+  without_auto are =
+      passed PlainCriteria has_no_auto (λ criteria h. both (tests_no_auto criteria.source) (tests_no_auto criteria.target) h.0 h.1) (plain_criteria facts form read are form.head)
 
   of_one_family : list_all is_of_one_family (rules_of facts form call defaults room read) ≡ true
   of_one_family = passed Itself is_of_one_family (λ criteria h. all_tested criteria h) (one_family facts form read form.head)
@@ -57,8 +56,8 @@ module _ (form : RuleForm) (call : Call) (order : Order) (facts : HostFacts) (de
   are : rules_of facts form call defaults room h.read ≡ rules
   are = answered (fault_of facts order form h.read) rules (rules_of facts form call defaults room h.read) h.gives
 
-  pub rules_name_none : list_all names_none rules ≡ true
-  rules_name_none = ap (list_all names_none) (sym are) ∙ name_none facts form call defaults room h.read h.are
+  pub rules_without_auto : list_all has_no_auto rules ≡ true
+  rules_without_auto = ap (list_all has_no_auto) (sym are) ∙ without_auto facts form call defaults room h.read h.are
 
   pub rules_of_one_family : list_all is_of_one_family rules ≡ true
   rules_of_one_family = ap (list_all is_of_one_family) (sym are) ∙ of_one_family facts form call defaults room h.read

@@ -30,11 +30,19 @@ module _ (hosts : (facts : HostFacts) (items : List HostItem) → ((words : Word
 
   readings : (facts : HostFacts) (form : RuleForm) → ((read : Readings) → AreReadings facts form read → ⊥) → ⊥
   readings facts form never =
-      hosts facts form.sources (λ sources from. hosts facts form.targets (λ targets to. translation facts form.nat (λ nat by. translation facts form.rdr (λ rdr with.
-        never (record {
-          protos = protos form.protos; icmp = icmps form.icmp; sources = sources; source_ports = port_tests facts form.source_ports; targets = targets;
-          target_ports = port_tests facts form.target_ports; users = id_tests facts ids.User form.users; groups = id_tests facts ids.Group form.groups; nat = nat; rdr = rdr
-        }) (record { protos = refl; icmp = refl; sources = from; source_ports = refl; targets = to; target_ports = refl; users = refl; groups = refl; nat = by; rdr = with })))))
+      hosts facts form.sources (λ sources from. hosts facts form.targets (λ targets to. translation facts form.nat (λ nat by. translation facts form.rdr (λ rdr through.
+      never (record {
+        protos = protos form.protos;
+        icmp = icmps form.icmp;
+        sources = sources;
+        source_ports = port_tests facts form.source_ports;
+        targets = targets;
+        target_ports = port_tests facts form.target_ports;
+        users = id_tests facts ids.User form.users;
+        groups = id_tests facts ids.Group form.groups;
+        nat = nat;
+        rdr = rdr;
+      }) (record { protos = refl; icmp = refl; sources = from; source_ports = refl; targets = to; target_ports = refl; users = refl; groups = refl; nat = by; rdr = through })))))
 
   pub some_answer : (form : RuleForm) (call : Call) (order : Order) (facts : HostFacts) (defaults : Defaults) (room : ℕ) → ((answer : Result (List Rule) FaultKind) → Expands form call order facts defaults room answer → ⊥) → ⊥
   some_answer form call order facts defaults room never =

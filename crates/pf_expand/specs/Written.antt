@@ -1,13 +1,29 @@
--- What the rules of a statement are like: each is of one family or of none.
-use Rattle.std.specs.Prelude.{Bool, false, not, List, ◌++◌, Option, Some, None}
+-- What the rules of a statement are like: they name no automatic table, each is of one family or of none, and `floating` is off.
+use Rattle.std.specs.Prelude.{Bool, true, false, ◌&&◌, not, List, ◌++◌, Option, Some, None}
 use Rattle.std.specs.List.{list_all}
 use Rattle.std.specs.Option.{option_map, option_to_list}
 use Rattle.pf_base.specs.declared.kind.Family.{Family}
 use Rattle.pf_combine.specs.Combinations.{is_same}
 use Rattle.pf_combine.specs.Members.{family_of_test}
 use Rattle.pf_ops.specs.declared.flags.IcmpType.{IcmpType}
+use Rattle.pf_rule.specs.declared.criteria.AddrSet.TheVariants as sets
+use Rattle.pf_rule.specs.declared.criteria.AddrTest.{AddrTest}
+use Rattle.pf_rule.specs.declared.criteria.AddrTest.TheVariants as tests
 use Rattle.pf_rule.specs.declared.criteria.Criteria.{Criteria}
 use Rattle.pf_rule.specs.declared.rule.Rule.{Rule}
+
+-- the test names no automatic table, which only an optimiser makes
+abbrev pub tests_no_auto : AddrTest → Bool
+tests_no_auto tests.Any = true
+tests_no_auto (tests.Test negated (sets.Prefix prefix)) = true
+tests_no_auto (tests.Test negated (sets.Range range)) = true
+tests_no_auto (tests.Test negated (sets.Table name)) = true
+tests_no_auto (tests.Test negated (sets.Dynamic what)) = true
+tests_no_auto (tests.Test negated (sets.Auto number)) = false
+
+-- neither end of the rule names one
+abbrev pub has_no_auto : Rule → Bool
+has_no_auto rule = tests_no_auto rule.criteria.source && tests_no_auto rule.criteria.target
 
 -- the family of an ICMP type
 abbrev pub icmp_family : IcmpType → Family

@@ -1,14 +1,13 @@
 //! Laws of the definitions, for the crates above: a caller of a law has its clauses.
 ghost use Rattle.std.specs.Prelude.{◌≡◌, ◌≤◌, ℕ, List, length, true, Ok, Result};
 ghost use Rattle.std.specs.List.{list_all};
-ghost use Rattle.pf_auto.specs.Standing.{names_none};
 ghost use Rattle.pf_base.specs.declared.fault.FaultKind.{FaultKind as Fault};
 ghost use Rattle.pf_form.specs.declared.form.RuleForm.{RuleForm};
 ghost use Rattle.pf_host.specs.Facts.{HostFacts};
 ghost use Rattle.pf_parts.specs.declared.call.Call.{Call};
 ghost use Rattle.pf_rule.specs.declared.rule.Rule.{Rule};
 ghost use Rattle.pf_expand.specs.Expansion.{Expands};
-ghost use Rattle.pf_expand.specs.Written.{is_of_one_family, is_settled};
+ghost use Rattle.pf_expand.specs.Written.{has_no_auto, is_of_one_family, is_settled};
 ghost use Rattle.pf_expand.specs.declared.order.Defaults.{Defaults as Policies};
 ghost use Rattle.pf_expand.specs.declared.order.Order.{Order as First};
 
@@ -35,7 +34,7 @@ pub fn a_statement_comes_to_something()
 /// and there are at most as many as there was room for.
 pub fn expanded_rules_are_written()
     ensures tables { (form : RuleForm) (call : Call) (order : First) (facts : HostFacts) (defaults : Policies) (room : ℕ) (rules : List Rule)
-        → Expands form call order facts defaults room (Ok rules) → list_all names_none rules ≡ true }
+        → Expands form call order facts defaults room (Ok rules) → list_all has_no_auto rules ≡ true }
     ensures families { (form : RuleForm) (call : Call) (order : First) (facts : HostFacts) (defaults : Policies) (room : ℕ) (rules : List Rule)
         → Expands form call order facts defaults room (Ok rules) → list_all is_of_one_family rules ≡ true }
     ensures floating { (form : RuleForm) (call : Call) (order : First) (facts : HostFacts) (defaults : Policies) (room : ℕ) (rules : List Rule)

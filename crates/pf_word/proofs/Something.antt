@@ -44,7 +44,7 @@ masked_means word mask never =
     let text : List ℕ = word ++ slash ∷ mask in
     let no_text : (prefix : Prefix) → IsPrefixText text prefix → ⊥ = λ prefix is. never (Ok (prefix ∷ [])) (a_prefix prefix is refl) in
     let fits : (addr : Addr) (bits : ℕ) → Writes text addr bits → bits ≤ width addr = λ addr bits writes.
-      not_over bits (width addr) (λ over. never (Err (kinds.MaskTooLong bits)) (too_long bits no_text (record { addr = addr; writes = writes; over = over }) refl)) in
+    not_over bits (width addr) (λ over. never (Err (kinds.MaskTooLong bits)) (too_long bits no_text (record { addr = addr; writes = writes; over = over }) refl)) in
     never (Err (kinds.NotAnAddress (named word)))
     (no_prefix (λ addr bits writes. no_text (prefix_at addr bits (fits addr bits writes)) (prefix_text text addr bits writes (fits addr bits writes))) refl)
 
@@ -58,9 +58,9 @@ address_means word never = never (Err (kinds.NotAnAddress (named word))) (no_add
 between_means : (low : List ℕ) (negated : Bool) (first last : Addr) → ((words : Words AddrTest) → RangeMeans low negated first last words → ⊥) → ⊥
 between_means low negated first last never =
     let no_range : SameFamily first last → ⊥ = λ same.
-      let rises : number first ≤ number last = not_over (number first) (number last) (λ above. never (failed (kinds.NotAnAddress (named low))) (falls (record { one_family = same; above = above }) refl)) in
-      let range : Range = record { low = first; high = last; one_family = same; in_order = rises } in
-      never (found (tests.Test negated (sets.Range range))) (a_range range (record { low_end = refl; high_end = refl }) refl) in
+    let rises : number first ≤ number last = not_over (number first) (number last) (λ above. never (failed (kinds.NotAnAddress (named low))) (falls (record { one_family = same; above = above }) refl)) in
+    let range : Range = record { low = first; high = last; one_family = same; in_order = rises } in
+    never (found (tests.Test negated (sets.Range range))) (a_range range (record { low_end = refl; high_end = refl }) refl) in
     never (failed kinds.FamilyMismatch) (two_families no_range refl)
 
 ends_mean : (low : List ℕ) (negated : Bool) (first last : Result Addr FaultKind) → ((words : Words AddrTest) → EndsMean low negated first last words → ⊥) → ⊥
@@ -75,7 +75,7 @@ form_means facts negated (forms.Word word mask) never =
     host_word_means facts word mask (λ answer means. never (tests_of_word negated answer) (record { answer = answer; means = means; are = refl }))
 form_means facts negated (forms.Range low high) never =
     address_means low (λ first low_end. address_means high (λ last high_end. ends_mean low negated first last (λ words mean.
-      never words (record { first = first; last = last; low_end = low_end; high_end = high_end; mean = mean }))))
+    never words (record { first = first; last = last; low_end = low_end; high_end = high_end; mean = mean }))))
 form_means facts negated (forms.Dynamic word) never = never (dynamic_test negated word) refl
 form_means facts negated (forms.Table name) never = never (found (tests.Test negated (sets.Table name))) refl
 

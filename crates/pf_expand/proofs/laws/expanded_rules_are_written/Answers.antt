@@ -1,8 +1,8 @@
-use Rattle.pf_expand.proofs.Promises.{rules_few, rules_name_none, rules_of_one_family, rules_settled}
+use Rattle.pf_expand.proofs.Promises.{rules_few, rules_of_one_family, rules_settled, rules_without_auto}
 use Rattle.pf_expand.proofs.laws.expanded_rules_are_written.Goals as goal
 
 pub returns-clause-tables : goal.returns-clause-tables
-returns-clause-tables c = rules_name_none
+returns-clause-tables c = rules_without_auto
 
 pub returns-clause-families : goal.returns-clause-families
 returns-clause-families c = rules_of_one_family
