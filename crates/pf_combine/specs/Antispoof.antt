@@ -1,7 +1,7 @@
 -- `antispoof` (pf.conf(5), "antispoof"): of each interface that a name means its own networks, which may come in on no other, and
 -- then its own addresses, which may come in on none, unless it is a loopback interface.
-use Rattle.std.specs.Prelude.{ℕ, Bool, true, false, ◌||◌, List, [], ◌∷◌, ◌++◌, map, filter, codes, Option, Some, None, if◌then◌else◌}
-use Rattle.std.specs.List.{filter_map, flat_map}
+use Rattle.std.specs.Prelude.{ℕ, true, false, List, [], ◌++◌, map, filter, codes, Option, Some, if◌then◌else◌}
+use Rattle.std.specs.List.{flat_map}
 use Rattle.pf_base.specs.declared.kind.Family.{Family}
 use Rattle.pf_addr.specs.Addr.{family_of}
 use Rattle.pf_addr.specs.declared.prefix.Prefix.{Prefix}

@@ -1,6 +1,6 @@
 -- The combinations of a statement's lists (pf.conf(5), lists): one member of each, the first list outermost, without those of
 -- which two members name different families.
-use Rattle.std.specs.Prelude.{ℕ, Bool, true, false, List, [], ◌∷◌, ◌++◌, map, filter, Option, Some, None, ◌==◌}
+use Rattle.std.specs.Prelude.{Bool, true, List, [], ◌∷◌, ◌++◌, map, filter, ◌==◌}
 use Rattle.std.specs.List.{filter_map, flat_map, list_all, slice_get}
 use Rattle.pf_base.specs.declared.kind.Family.{Family}
 use Rattle.pf_addr.specs.Addr.{bits_of}

@@ -1,5 +1,5 @@
 -- The members of a statement's lists: what one of them gives a rule (pf.conf(5), lists and PARAMETERS).
-use Rattle.std.specs.Prelude.{ℕ, Bool, true, false, List, [], ◌∷◌, Option, Some, None}
+use Rattle.std.specs.Prelude.{List, [], ◌∷◌, Option, Some, None}
 use Rattle.pf_base.specs.declared.kind.Family.{Family}
 use Rattle.pf_addr.specs.Addr.{family_of}
 use Rattle.pf_rule.specs.declared.criteria.AddrSet.{AddrSet}

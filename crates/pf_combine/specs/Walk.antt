@@ -1,7 +1,7 @@
 -- The combinations as they are walked, member by member: only members that fit the family so far, and only where the lists
 -- behind have members that fit.
-use Rattle.std.specs.Prelude.{Bool, true, false, ◌&&◌, ◌||◌, List, [], ◌∷◌, Option, Some, None, if◌then◌else◌}
-use Rattle.std.specs.List.{flat_map, list_all, list_any}
+use Rattle.std.specs.Prelude.{Bool, true, ◌&&◌, ◌||◌, List, [], Option, Some, None, if◌then◌else◌}
+use Rattle.std.specs.List.{list_all, list_any}
 use Rattle.std.specs.Option.{option_or, option_to_list}
 use Rattle.pf_base.specs.declared.kind.Family.{Family}
 use Rattle.pf_base.specs.declared.kind.Family.TheVariants.{Inet, Inet6}

@@ -1,8 +1,7 @@
-//! Combinations of lists, and an antispoof against the facts of a small host.
-use crate::{Member, antispoof_criteria, combinations};
+//! Combinations of lists.
+use crate::{Member, combinations};
 use pf_addr::{Addr, Prefix};
-use pf_base::{Family, List, Name};
-use pf_host::read_facts;
+use pf_base::{Family, List};
 use pf_parts::{IfTest, TagTest};
 use pf_rule::{AddrSet, AddrTest, Criteria};
 use std::test::Fail;
@@ -47,20 +46,5 @@ fn negated_members_combine(rt: HostRuntime) -> Result<(), Fail> {
         let found = combinations(alloc, 10, families, &START, lists.items())?;
         assert_eq!(rt; found.items().len(), wanted);
     }
-    Ok(())
-}
-
-// `antispoof for em0`: its network on other interfaces, and its address.
-#[test]
-fn networks_and_addresses(rt: HostRuntime) -> Result<(), Fail> {
-    let alloc = rt.alloc();
-    let facts = read_facts(alloc, b"interface em0\naddress em0 192.0.2.10/24\n")?;
-    let name = Name::new(b"em0").ok_or("no name")?;
-    let list = [IfTest::On {
-        name,
-        negated: false,
-    }];
-    let found = antispoof_criteria(alloc, 10, &facts, None, &START, &list)?;
-    assert_eq!(rt; found.items().len(), 2);
     Ok(())
 }

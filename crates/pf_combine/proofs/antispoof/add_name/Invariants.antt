@@ -1,4 +1,4 @@
-use Rattle.std.proofs.Common.{◌≡◌, take, map, filter, ◌++◌}
+use Rattle.std.proofs.Common.{◌≡◌, take, filter, ◌++◌}
 use Rattle.std.specs.List.{flat_map}
 use Rattle.pf_host.specs.Queries.{is_meant}
 use Rattle.pf_combine.specs.Antispoof.{of_iface}

@@ -1,4 +1,4 @@
-use Rattle.std.proofs.Common.{◌≡◌, take, map, filter, ◌++◌}
+use Rattle.std.proofs.Common.{◌≡◌, take, map, ◌++◌}
 use Rattle.pf_combine.specs.Antispoof.{from_prefix, of_written}
 use Rattle.pf_combine.proofs.antispoof.add_prefixes.Given as goal
 

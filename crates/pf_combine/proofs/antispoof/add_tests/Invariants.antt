@@ -1,4 +1,4 @@
-use Rattle.std.proofs.Common.{◌≡◌, take, map, filter, ◌++◌}
+use Rattle.std.proofs.Common.{◌≡◌, take, ◌++◌}
 use Rattle.std.specs.List.{flat_map}
 use Rattle.pf_combine.specs.Antispoof.{of_test}
 use Rattle.pf_combine.proofs.antispoof.add_tests.Given as goal
