@@ -17,6 +17,3 @@ pub use laws::{
 };
 pub use order::{Defaults, Order};
 pub use statement::expand;
-
-#[cfg(test)]
-mod tests;
