@@ -85,89 +85,90 @@ fn network(text: &str) -> Result<AddrTest, Fail> {
     })
 }
 
-fn every_test() -> Result<Criteria, Fail> {
-    Ok(Criteria {
-        iface: IfTest::On {
+fn fill_hosts(criteria: &mut Criteria) -> Result<(), Fail> {
+    criteria.iface = IfTest::On {
+        name: name("em0")?,
+        negated: true,
+    };
+    criteria.direction = Some(Direction::In);
+    criteria.family = Some(Family::Inet);
+    criteria.proto = Some(6);
+    criteria.source = network("10/8")?;
+    criteria.target = AddrTest::Test {
+        negated: true,
+        what: AddrSet::Dynamic(DynIf {
             name: name("em0")?,
-            negated: true,
-        },
-        direction: Some(Direction::In),
-        family: Some(Family::Inet),
-        proto: Some(6),
-        source: network("10/8")?,
-        source_port: None,
-        target: AddrTest::Test {
-            negated: true,
-            what: AddrSet::Dynamic(DynIf {
-                name: name("em0")?,
-                network: true,
-                first: true,
-            }),
-        },
-        target_port: Some(Op16::make(OpKind::Equal, 22, 0)),
-        user: Some(Op32::make(OpKind::Between, 7, 7)),
-        group: Some(Op32::make(OpKind::Other, 5, 0)),
-        flags: Some(TcpFlags { set: 2, mask: 18 }),
-        icmp: None,
-        tos: Some(16),
-        prio: Some(3),
-        tagged: TagTest::Is {
-            name: name("any")?,
-            negated: true,
-        },
-    })
+            network: true,
+            first: true,
+        }),
+    };
+    criteria.target_port = Some(Op16::make(OpKind::Equal, 22, 0));
+    Ok(())
 }
 
-fn every_param() -> Result<Params, Fail> {
-    Ok(Params {
-        queue: Some(Queues {
-            first: name("std")?,
-            second: Some(name("pri/1")?),
-        }),
-        prio: Some(Prios {
-            first: 5,
-            second: Some(6),
-        }),
-        tos: Some(8),
-        scrub: Scrub {
-            no_df: true,
-            max_mss: Some(1440),
-            ..Scrub::NONE
-        },
-        log: Log {
-            on: true,
-            all: true,
-            to: Some(name("pflog1")?),
-            ..Log::NONE
-        },
-        allow_opts: true,
-        nat: None,
-        rdr: Some(Target {
-            addr: Addr::V4(0x0a00_0005),
-            port: Some(8080),
-        }),
-    })
+fn fill_tests(criteria: &mut Criteria) -> Result<(), Fail> {
+    criteria.user = Some(Op32::make(OpKind::Between, 7, 7));
+    criteria.group = Some(Op32::make(OpKind::Other, 5, 0));
+    criteria.flags = Some(TcpFlags { set: 2, mask: 18 });
+    criteria.tos = Some(16);
+    criteria.prio = Some(3);
+    criteria.tagged = TagTest::Is {
+        name: name("any")?,
+        negated: true,
+    };
+    Ok(())
+}
+
+fn fill_params(params: &mut Params) -> Result<(), Fail> {
+    params.queue = Some(Queues {
+        first: name("std")?,
+        second: Some(name("pri/1")?),
+    });
+    params.prio = Some(Prios {
+        first: 5,
+        second: Some(6),
+    });
+    params.tos = Some(8);
+    params.scrub = Scrub {
+        no_df: true,
+        max_mss: Some(1440),
+        ..Scrub::NONE
+    };
+    params.log = Log {
+        on: true,
+        all: true,
+        to: Some(name("pflog1")?),
+        ..Log::NONE
+    };
+    params.allow_opts = true;
+    params.rdr = Some(Target {
+        addr: Addr::V4(0x0a00_0005),
+        port: Some(8080),
+    });
+    Ok(())
+}
+
+fn fill_effect(effect: &mut Effect) -> Result<(), Fail> {
+    effect.quick = true;
+    effect.tag = Some(name("web")?);
+    effect.state = StateKind::Modulate;
+    effect.options = StateOptions {
+        max: Some(100),
+        if_bound: true,
+        floating: true,
+        ..StateOptions::NONE
+    };
+    effect.label = Some(name("a b")?);
+    Ok(())
 }
 
 #[test]
 fn every_part_is_printed(rt: HostRuntime) -> Result<(), Fail> {
-    let rule = Rule {
-        criteria: every_test()?,
-        effect: Effect {
-            action: Action::Pass,
-            quick: true,
-            tag: Some(name("web")?),
-            state: StateKind::Modulate,
-            options: StateOptions {
-                max: Some(100),
-                if_bound: true,
-                floating: true,
-                ..StateOptions::NONE
-            },
-            params: every_param()?,
-            label: Some(name("a b")?),
-        },
-    };
+    let mut rule = pass();
+    fill_hosts(&mut rule.criteria)?;
+    fill_tests(&mut rule.criteria)?;
+    fill_effect(&mut rule.effect)?;
+    fill_params(&mut rule.effect.params)?;
     let mut out = Vec::new(rt.alloc());
     put_rule(&mut out, &rule)?;
     assert_eq!(rt;
