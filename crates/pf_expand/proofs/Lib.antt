@@ -1,6 +1,10 @@
 pub mod Answering
-pub mod Combined
+pub mod Every
 pub mod Examples
 pub mod Firsts
 pub mod Loops
+pub mod OneFamily
 pub mod OneThing
+pub mod Plain
+pub mod Promises
+pub mod Something

@@ -1,38 +1,21 @@
--- One more item of a list that is filtered and mapped, or searched.
-use Rattle.std.proofs.Common.{◌≡◌, ℕ, ◌+◌, ◌<◌, Bool, true, false, cond, List, [], ◌∷◌, ◌++◌, length, map, filter, take, drop, get_or, Option, Some, None, refl, sym, ap, ◌∙◌}
-use Rattle.std.specs.List.{cons_option, filter_map, find, flat_map}
+-- One more item of a list that is gone through for what it gives, or searched.
+use Rattle.std.proofs.Common.{◌≡◌, ℕ, ◌+◌, ◌<◌, Bool, true, false, cond, List, [], ◌∷◌, ◌++◌, length, take, drop, get_or, Option, Some, None, refl, sym, ap, ◌∙◌}
+use Rattle.std.specs.List.{cons_option, filter_map, find}
 use Rattle.std.specs.Option.{option_or}
-use Rattle.std.proofs.lemmas.List.{append-nil, map-append, take-append-drop, take_more}
-use Rattle.std.proofs.lemmas.List.Concat.{flat_map-append}
-use Rattle.std.proofs.lemmas.List.Elements.{filter-append}
+use Rattle.std.proofs.lemmas.List.{append-nil, take-append-drop, take_more}
+use Rattle.std.proofs.lemmas.List.Elements.{filter_map-append}
 use Rattle.std.proofs.lemmas.List.Folds.{find-append}
 
 one_more : {A : Type 0} (xs : List A) (i : ℕ) (x : A) → i < length xs → x ≡ get_or xs i x → take (i + 1) xs ≡ take i xs ++ x ∷ []
 one_more xs i x low is = take_more xs i x low ∙ ap (λ y. take i xs ++ y ∷ []) (sym is)
 
-kept_one : {A : Type 0} (K : A → Bool) (xs : List A) (i : ℕ) (x : A) → i < length xs → x ≡ get_or xs i x → K x ≡ true → filter K (take (i + 1) xs) ≡ filter K (take i xs) ++ x ∷ []
-kept_one K xs i x low is kept =
-    ap (filter K) (one_more xs i x low is) ∙ filter-append K (take i xs) (x ∷ []) ∙ ap (λ b. filter K (take i xs) ++ cond b (x ∷ []) []) kept
-
-pub map_one : {A B : Type 0} (K : A → Bool) (F : A → B) (xs : List A) (i : ℕ) (x : A) → i < length xs → x ≡ get_or xs i x → K x ≡ true → map F (filter K (take (i + 1) xs)) ≡ map F (filter K (take i xs)) ++ F x ∷ []
-map_one K F xs i x low is kept = ap (map F) (kept_one K xs i x low is kept) ∙ map-append F (filter K (take i xs)) (x ∷ [])
-
-pub flat_one : {A B : Type 0} (K : A → Bool) (G : A → List B) (xs : List A) (i : ℕ) (x : A) → i < length xs → x ≡ get_or xs i x → K x ≡ true → flat_map G (filter K (take (i + 1) xs)) ≡ flat_map G (filter K (take i xs)) ++ G x
-flat_one K G xs i x low is kept =
-    ap (flat_map G) (kept_one K xs i x low is kept) ∙ flat_map-append G (filter K (take i xs)) (x ∷ []) ∙ ap (λ t. flat_map G (filter K (take i xs)) ++ t) (append-nil (G x))
-
-joined : {A B : Type 0} (h : A → Option B) (xs ys : List A) → filter_map h (xs ++ ys) ≡ filter_map h xs ++ filter_map h ys
-joined h [] ys = refl
-joined h (x ∷ xs) ys =
-    elim (h x) as (λ o. cons_option o (filter_map h (xs ++ ys)) ≡ cons_option o (filter_map h xs) ++ filter_map h ys) [ None ↦ joined h xs ys | Some y ↦ ap (λ t. y ∷ t) (joined h xs ys) ]
-
 pub map_none : {A B : Type 0} (h : A → Option B) (xs : List A) (i : ℕ) (x : A) → i < length xs → x ≡ get_or xs i x → h x ≡ None → filter_map h (take (i + 1) xs) ≡ filter_map h (take i xs)
 map_none h xs i x low is none =
-    ap (filter_map h) (one_more xs i x low is) ∙ joined h (take i xs) (x ∷ []) ∙ ap (λ o. filter_map h (take i xs) ++ cons_option o []) none ∙ append-nil (filter_map h (take i xs))
+    ap (filter_map h) (one_more xs i x low is) ∙ filter_map-append h (take i xs) (x ∷ []) ∙ ap (λ o. filter_map h (take i xs) ++ cons_option o []) none ∙ append-nil (filter_map h (take i xs))
 
 pub map_some : {A B : Type 0} (h : A → Option B) (xs : List A) (i : ℕ) (x : A) (y : B) → i < length xs → x ≡ get_or xs i x → h x ≡ Some y → filter_map h (take (i + 1) xs) ≡ filter_map h (take i xs) ++ y ∷ []
 map_some h xs i x y low is some =
-    ap (filter_map h) (one_more xs i x low is) ∙ joined h (take i xs) (x ∷ []) ∙ ap (λ o. filter_map h (take i xs) ++ cons_option o []) some
+    ap (filter_map h) (one_more xs i x low is) ∙ filter_map-append h (take i xs) (x ∷ []) ∙ ap (λ o. filter_map h (take i xs) ++ cons_option o []) some
 
 find_one : {A : Type 0} (p : A → Bool) (xs : List A) (i : ℕ) (x : A) → i < length xs → x ≡ get_or xs i x → find p (take i xs) ≡ None → find p (take (i + 1) xs) ≡ find p (x ∷ [])
 find_one p xs i x low is none =

@@ -16,14 +16,14 @@ use Rattle.pf_rule.specs.declared.rule.Rule.{Rule}
 use Rattle.pf_rule.specs.declared.translation.Target.{Target}
 use Rattle.pf_syntax.specs.declared.form.TargetWords.{TargetWords}
 use Rattle.pf_word.specs.Conditions.{host_has_words, op_has_words, target_has_words}
-use Rattle.pf_expand.specs.Antispoof.{of_tests}
-use Rattle.pf_expand.specs.Combinations.{combined}
+use Rattle.pf_combine.specs.Antispoof.{of_tests}
+use Rattle.pf_combine.specs.Combinations.{combined}
 use Rattle.pf_expand.specs.Faults.{faults_of, first_some}
-use Rattle.pf_expand.specs.Members as gives
+use Rattle.pf_combine.specs.Members as gives
 use Rattle.pf_expand.specs.Readings.{AreReadings, word_faults}
 use Rattle.pf_expand.specs.Rules.{effect_of, rule_of, start_of}
-use Rattle.pf_expand.specs.declared.member.Member.{Member}
-use Rattle.pf_expand.specs.declared.member.Member.TheVariants as members
+use Rattle.pf_combine.specs.declared.member.Member.{Member}
+use Rattle.pf_combine.specs.declared.member.Member.TheVariants as members
 use Rattle.pf_expand.specs.declared.order.Defaults.{Defaults}
 use Rattle.pf_expand.specs.declared.order.Order.{Order}
 use Rattle.pf_expand.specs.declared.readings.Readings.{Readings}

@@ -1,9 +1,6 @@
 pub mod Lists
-pub mod Members
-pub mod Combinations
-pub mod Walk
 pub mod Readings
 pub mod Faults
 pub mod Rules
-pub mod Antispoof
 pub mod Expansion
+pub mod Written

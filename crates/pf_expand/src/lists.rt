@@ -1,16 +1,12 @@
 //! The lists of a statement.
 ghost use Rattle.std.specs.Prelude.{◌≡◌, ◌++◌, map, OnOk, IfOk};
-ghost use Rattle.std.specs.List.{list_all};
 ghost use Rattle.std.specs.Option.{option_to_list};
-ghost use Rattle.pf_expand.specs.Combinations as combos;
-ghost use Rattle.pf_expand.specs.Combinations.{is_one};
 ghost use Rattle.pf_expand.specs.Expansion as says;
-ghost use Rattle.pf_expand.specs.declared.member.Member.TheVariants as members;
+ghost use Rattle.pf_combine.specs.declared.member.Member.TheVariants as members;
 
-use crate::combine::is_same;
-use crate::member::Member;
 use crate::readings::Readings;
 use pf_base::{Family, List, NoMemory};
+use pf_combine::Member;
 use pf_form::RuleForm;
 use pf_ops::{IcmpType, Op16, Op32};
 use pf_parts::IfTest;
@@ -211,21 +207,4 @@ pub(crate) fn written_families(
     add_families(&mut families, read.nat.values.items())?;
     add_families(&mut families, read.rdr.values.items())?;
     Ok(families)
-}
-
-// Whether all are of this family.
-fn are_of(family: Family, families: &[Family]) -> bool
-    ensures { result ≡ list_all (combos.is_same family) families.now }
-{
-    families.iter().all(|other| is_same(family, *other))
-}
-
-/// Whether no two of them differ.
-pub(crate) fn are_one(families: &[Family]) -> bool
-    ensures { result ≡ is_one families.now }
-{
-    match families.split_first() {
-        None => true,
-        Some((family, others)) => are_of(*family, others),
-    }
 }

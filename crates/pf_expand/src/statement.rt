@@ -1,53 +1,25 @@
 //! What a statement comes to (pf.conf(5), lists).
-ghost use Rattle.std.specs.Prelude.{◌≡◌, ◌≤◌, ◌++◌, length, take, IfOk};
-ghost use Rattle.std.specs.List.{slice_get};
+ghost use Rattle.std.specs.Prelude.{◌≡◌, take, IfOk};
 ghost use Rattle.pf_word.specs.Coming.{Comes};
-ghost use Rattle.pf_expand.specs.Combinations.{combined};
+ghost use Rattle.pf_combine.specs.Combinations.{combined};
 ghost use Rattle.pf_expand.specs.Expansion as says;
 ghost use Rattle.pf_expand.specs.Expansion.{Expands, HasWords};
 ghost use Rattle.pf_expand.specs.Lists.{is_empty};
-ghost use Rattle.pf_expand.specs.Antispoof.{of_tests};
 ghost use Rattle.pf_expand.specs.Rules as rules;
 
-use crate::antispoof::add_tests;
-use crate::combine::combine;
 use crate::faults::first_fault;
-use crate::lists::{are_one, lists_of, written_families};
-use crate::member::Member;
+use crate::lists::{lists_of, written_families};
 use crate::order::{Defaults, Order};
 use crate::readings::{Readings, faults_of_words, read_words};
 use crate::rules::{effect_of, rules_of, start_of};
-use pf_base::{Family, FaultKind, List, NoMemory};
+use pf_base::{FaultKind, List, NoMemory};
+use pf_combine::{antispoof_criteria, combinations};
 use pf_form::{Head, RuleForm};
 use pf_host::Facts;
 use pf_parts::Call;
 use pf_rule::{Criteria, Rule};
 use pf_word::ExpandFault;
 use std::alloc::Global;
-
-fn first_family(families: &[Family]) -> Option<Family>
-    ensures { result ≡ slice_get families.now 0 }
-{
-    families.first().copied()
-}
-
-// The first combinations of lists, behind families that the statement names as a whole.
-fn combinations(
-    alloc: Global,
-    room: usize,
-    families: &[Family],
-    start: &Criteria,
-    lists: &[List<Member>],
-) -> Result<List<Criteria>, NoMemory>
-    ensures { IfOk result (λ found. found ≡ take room (combined families.now start.now lists.now)) }
-{
-    let mut found = List::new(alloc);
-    if !are_one(families) {
-        return Ok(found);
-    }
-    combine(&mut found, room, first_family(families), start, lists)?;
-    Ok(found)
-}
 
 // The first combinations of the lists of a form.
 fn of_lists(
@@ -70,28 +42,6 @@ fn of_lists(
     )
 }
 
-// The first criteria of an antispoof.
-fn of_antispoof(
-    alloc: Global,
-    form: &RuleForm,
-    room: usize,
-    facts: &Facts,
-) -> Result<List<Criteria>, NoMemory>
-    ensures { IfOk result (λ found. found ≡ take room (of_tests facts.now form.now.family (rules.start_of form.now) form.now.ifaces)) }
-{
-    let mut found = List::new(alloc);
-    add_tests(
-        &mut found,
-        alloc,
-        room,
-        facts,
-        form.family,
-        &start_of(form),
-        form.ifaces.items(),
-    )?;
-    Ok(found)
-}
-
 // The first criteria of the rules of a form.
 fn criteria_of(
     alloc: Global,
@@ -103,7 +53,14 @@ fn criteria_of(
     ensures { IfOk result (λ found. found ≡ take room (says.all_criteria facts.now form.now read.now form.now.head)) }
 {
     match &form.head {
-        Head::Antispoof => of_antispoof(alloc, form, room, facts),
+        Head::Antispoof => antispoof_criteria(
+            alloc,
+            room,
+            facts,
+            form.family,
+            &start_of(form),
+            form.ifaces.items(),
+        ),
         Head::Pass | Head::Block(_) | Head::Match => of_lists(alloc, form, room, read),
         Head::Anchor { .. } => of_lists(alloc, form, room, read),
         Head::LoadAnchor { .. } => Ok(List::new(alloc)),

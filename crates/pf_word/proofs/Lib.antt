@@ -1,4 +1,5 @@
-pub mod Readings
 pub mod Adding
-pub mod OneMeaning
 pub mod Examples
+pub mod OneMeaning
+pub mod Readings
+pub mod Something

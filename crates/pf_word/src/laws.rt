@@ -24,3 +24,11 @@ pub fn words_have_one_meaning()
     texts_are_read_in_one_way();
     equal_values_are_one();
 }
+
+/// Each host word, each list of hosts and each target of a translation means something: it can't be that no answer is what
+/// it means.
+pub fn each_word_means_something()
+    ensures word { (facts : HostFacts) (word : List ℕ) (mask : Option (List ℕ)) → ((answer : Result (List Prefix) Fault) → HostWordMeans facts word mask answer → ⊥) → ⊥ }
+    ensures hosts { (facts : HostFacts) (items : List HostItem) → ((words : Read AddrTest) → HostsMean facts items words → ⊥) → ⊥ }
+    ensures target { (facts : HostFacts) (target : TargetWords) → ((words : Read Target) → TargetMeans facts target words → ⊥) → ⊥ }
+{}

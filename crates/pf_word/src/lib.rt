@@ -21,7 +21,7 @@ pub use fault::ExpandFault;
 pub use host::host_prefixes;
 pub use item::read_hosts;
 pub use kind::{read_icmp, read_protos};
-pub use laws::words_have_one_meaning;
+pub use laws::{each_word_means_something, words_have_one_meaning};
 pub use number::{IdKind, read_ids, read_ports};
 pub use table::is_table_name;
 pub use target::read_target;

@@ -1,5 +1,5 @@
 use Rattle.std.proofs.Common.{◌≡◌, take, map, filter, ◌++◌}
-use Rattle.pf_expand.specs.declared.member.Member.TheVariants as members
+use Rattle.pf_combine.specs.declared.member.Member.TheVariants as members
 use Rattle.pf_expand.proofs.lists.source_ports.Given as goal
 
 abbrev pub invariant-loop-value : goal.invariant-loop-value

@@ -1,0 +1,4 @@
+pub mod Members
+pub mod Combinations
+pub mod Walk
+pub mod Antispoof
