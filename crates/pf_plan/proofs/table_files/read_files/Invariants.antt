@@ -1,0 +1,17 @@
+use Rattle.std.proofs.Common.{[], ◌≤◌, length, drop}
+use Rattle.pf_source.specs.Asks.{Asks}
+use Rattle.pf_source.specs.Told.{Told, file_of}
+use Rattle.pf_lexer.specs.Reads.{GoesOn}
+use Rattle.pf_plan.specs.Numbered.{AreFilesWithin}
+use Rattle.pf_plan.proofs.TableContents.{ReadSo}
+use Rattle.pf_plan.proofs.table_files.read_files.Given as goal
+
+-- the files so far were read, and no read failed
+abbrev pub invariant-loop-name : goal.invariant-loop-name
+invariant-loop-name g l = record {
+  asks : Asks [] (g.F.Files.tells l.fn.files) (g.F.Files.tells l.files);
+  grows : GoesOn l.fn.reads.names l.reads.names;
+  left : l.reads.left ≤ l.fn.reads.left;
+  within : AreFilesWithin (length l.reads.names) l.read;
+  so : Told (g.F.Files.tells l.fn.files).held (λ held. ReadSo (file_of held) l.names l.fn.reads l.read (drop l.name-index l.names) l.reads);
+}
