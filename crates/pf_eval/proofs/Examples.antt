@@ -94,16 +94,16 @@ y = codes "y"
 -- a match rule within a quick anchor doesn't end the walk
 matched_within : (packet : Packet) →
     let walk = end ((main, rule (anchor a) true None ∷ rule block false None ∷ []) ∷ (a ∷ [], rule Match false (Some y) ∷ []) ∷ []) [] packet in
-    ((walk.tag, walk.last.action) ≡ (Some y, block)) × (walk.stop ≡ false)
+    (walk.tag ≡ Some y) × (walk.last.action ≡ block) × (walk.stop ≡ false)
 unfolding hits effect_on target_of
-matched_within packet = (refl, refl)
+matched_within packet = (refl, refl, refl)
 
 -- a pass rule there does
 passed_within : (packet : Packet) →
     let walk = end ((main, rule (anchor a) true None ∷ rule block false None ∷ []) ∷ (a ∷ [], rule Pass false (Some y) ∷ []) ∷ []) [] packet in
-    ((walk.tag, walk.last.action) ≡ (Some y, Pass)) × (walk.stop ≡ true)
+    (walk.tag ≡ Some y) × (walk.last.action ≡ Pass) × (walk.stop ≡ true)
 unfolding hits effect_on target_of
-passed_within packet = (refl, refl)
+passed_within packet = (refl, refl, refl)
 
 -- a quick rule within an anchor that isn't quick ends the whole walk
 quick_within : (packet : Packet) →
@@ -114,13 +114,13 @@ quick_within packet = refl
 -- a wildcard walks the rulesets right below in their order, and none that is deeper
 wildcard : (packet : Packet) →
     let walk = end ((main, rule (anchors_below x) false None ∷ []) ∷ (x ∷ a ∷ [], rule block false (Some a) ∷ []) ∷ (x ∷ b ∷ [], rule Pass false (Some b) ∷ []) ∷ (x ∷ a ∷ y ∷ [], rule Pass true (Some y) ∷ []) ∷ []) (a ∷ b ∷ []) packet in
-    (walk.tag, walk.last.action) ≡ (Some b, Pass)
+    (walk.tag ≡ Some b) × (walk.last.action ≡ Pass)
 unfolding hits effect_on target_of
-wildcard packet = refl
+wildcard packet = (refl, refl)
 
 -- a call upwards
 upwards : (packet : Packet) →
     let walk = end ((main, rule block false None ∷ rule (anchor x) false None ∷ []) ∷ (x ∷ [], rule (anchor_beside y) false None ∷ []) ∷ (y ∷ [], rule Pass false (Some y) ∷ []) ∷ []) [] packet in
-    (walk.tag, walk.last.action) ≡ (Some y, Pass)
+    (walk.tag ≡ Some y) × (walk.last.action ≡ Pass)
 unfolding hits effect_on target_of
-upwards packet = refl
+upwards packet = (refl, refl)

@@ -7,4 +7,9 @@ pub mod Entries
 pub mod Arms
 pub mod Ends
 pub mod Named
+pub mod Answering
+pub mod Deeds
+pub mod Fewer
+pub mod Gathered
+pub mod Telling
 mod Examples

@@ -47,4 +47,4 @@ named_nowhere own main name none e = main_next (fin.get own name) (fin.get main 
 -- where there is no main ruleset
 pub named_without_main : (own : Tables) (name : List ℕ) → None ≡ option_map (λ (found : Shelved). found.table) (fin.get own name) → entries_named own (tables_in None) name ≡ []
 named_without_main own name none =
-    named_nowhere own (tables_in None) name none (ap (option_map (λ (found : Shelved). found.table)) (sym (fin.get-empty name)))
+    named_nowhere own (tables_in None) name none (ap (option_map (λ (found : Shelved). found.table)) (sym (fin.get-empty name_cmp name)))

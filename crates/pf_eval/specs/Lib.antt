@@ -4,3 +4,4 @@ pub mod Answers
 pub mod Chain
 pub mod Steps
 pub mod Longest
+pub mod Rows

@@ -21,7 +21,6 @@ use pf_tree::Tree;
 /// What the rulesets of a tree, as they are written, answer to the packet of the probe, which is left at the end of its walk
 /// (pf.conf(5), ANCHORS); where `skip` names the packet's interface, the answer is `skip` and no rule is tested ("set skip").
 /// The walk goes through optimised rules by skip steps, and each that it reaches is counted. Takes no memory.
-#[tactic(auto, unfolding(crate::specs::Answers::answer_of, crate::specs::Chain::tests_from_main, crate::specs::World::walk_at))]
 pub fn eval<P: Probe<L>, L: Ledger>(
     tree: &Tree<Node>,
     facts: &Facts,

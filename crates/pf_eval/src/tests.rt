@@ -1,7 +1,12 @@
 //! Walks through trees of rulesets.
-use crate::{Node, eval};
+ghost use Rattle.std.specs.Prelude.{◌≡◌, ◌<◌, ◌^◌, true, length};
+ghost use Rattle.std.specs.List.{sum};
+ghost use Rattle.pf_auto.specs.Standing.{names_none};
+ghost use Rattle.pf_optim.specs.Meaning.{are_written};
+
+use crate::{CallFault, Node, call_fault, call_rows, eval, rows_tell_calls};
 use pf_addr::{Addr, Ifaces, Prefix};
-use pf_base::{Family, Level, List, Name, Path, Steps, Uncounted};
+use pf_base::{Family, Level, List, Name, NoMemory, Path, Steps, Uncounted};
 use pf_host::Facts;
 use pf_ops::{Op16, OpKind};
 use pf_optim::optimise;
@@ -12,6 +17,7 @@ use pf_rule::{
 use pf_tree::{Blank, Tree};
 use std::alloc::Global;
 use std::process::Abort;
+use std::test::Fail;
 
 const PASS: Rule = Rule {
     criteria: Criteria {
@@ -92,21 +98,35 @@ fn name(rt: &impl Abort, text: &str) -> Name {
     Name::new(text.as_bytes()).expect(rt, "a name")
 }
 
+fn path(rt: &impl Abort, text: &str) -> Path {
+    Path::parse_any(text.as_bytes()).ok().expect(rt, "a path")
+}
+
 // What an anchor rule calls; a word that begins with `_` is that of an anchor without a name.
 fn call(rt: &impl Abort, word: &str) -> Call {
     if word.starts_with("_") {
         return Call {
             base: Base::Below,
-            path: Path::parse_any(word.as_bytes()).ok().expect(rt, "a path"),
+            path: path(rt, word),
             children: false,
         };
     }
     Call::parse(word.as_bytes()).ok().expect(rt, "a call")
 }
 
+fn action(rt: &impl Abort, word: &str) -> Action {
+    match word {
+        "pass" => Action::Pass,
+        "block" => Action::Block(BlockKind::Drop),
+        "match" => Action::Match,
+        _ => Action::Anchor(call(rt, word)),
+    }
+}
+
 // `pass`, `block drop`, `match` or `anchor "CALL"`, with `quick` behind a `!`, and `tag NAME` behind an `=`.
-fn rule(rt: &impl Abort, text: &str) -> Rule {
-    let mut rule = PASS;
+fn rule(rt: &impl Abort, text: &str) -> Rule
+    ensures { names_none result ≡ true }
+{
     let (text, tag) = match text.split_once('=') {
         Some((text, tag)) => (text, Some(name(rt, tag))),
         None => (text, None),
@@ -115,37 +135,35 @@ fn rule(rt: &impl Abort, text: &str) -> Rule {
         Some(word) => (word, true),
         None => (text, false),
     };
-    rule.effect.tag = tag;
-    rule.effect.quick = quick;
-    rule.effect.action = match word {
-        "pass" => Action::Pass,
-        "block" => Action::Block(BlockKind::Drop),
-        "match" => Action::Match,
-        _ => Action::Anchor(call(rt, word)),
-    };
-    if word != "pass" {
-        rule.effect.state = StateKind::None;
+    Rule {
+        effect: Effect {
+            action: action(rt, word),
+            quick,
+            tag,
+            ..PASS.effect
+        },
+        ..PASS
     }
-    rule
 }
 
-// Puts rules at a path.
-fn plant(rt: &impl Abort, alloc: Global, tree: &mut Tree<Node>, path: &str, level: Level, rules: &[Rule]) {
+// What stands at a path with these rules.
+fn node_of(alloc: Global, level: Level, rules: &[Rule], weights: &[u64]) -> Result<Node, NoMemory>
+    requires written { are_written rules.now ≡ true }
+    requires weighed { length rules.now ≡ length weights.now }
+    requires few { length rules.now < 2 ^ 30 }
+    requires light { sum weights.now < 2 ^ 60 }
+{
     let mut list = List::new(alloc);
-    let mut weights = Vec::new(alloc);
-    for rule in rules {
-        list.push_copy(rule).ok().expect(rt, "memory");
-        weights.push(0).ok().expect(rt, "memory");
-    }
+    list.append_copy(rules)?;
     let mut node = Node::fresh(alloc);
-    node.rules = optimise(alloc, list, level, &weights).ok().expect(rt, "memory");
-    let path = Path::parse_any(path.as_bytes()).ok().expect(rt, "a path");
-    tree.prepare(alloc, &[path]).ok().expect(rt, "memory");
-    tree.install(&path, &mut node);
+    node.rules = optimise(alloc, list, level, weights)?;
+    Ok(node)
 }
 
-fn addr(rt: &impl Abort, text: &str) -> Addr {
-    pf_addr::parse_addr(text.as_bytes()).ok().expect(rt, "an address")
+fn plant(alloc: Global, tree: &mut Tree<Node>, at: &Path, mut node: Node) -> Result<(), NoMemory> {
+    tree.prepare(alloc, &[*at])?;
+    tree.install(at, &mut node);
+    Ok(())
 }
 
 // `in em0 udp 10.0.0.1 192.0.2.10 sport=1024 dport=53`
@@ -169,6 +187,10 @@ fn query(rt: &impl Abort) -> Packet {
     }
 }
 
+fn addr(rt: &impl Abort, text: &str) -> Addr {
+    pf_addr::parse_addr(text.as_bytes()).ok().expect(rt, "an address")
+}
+
 // The answer to a packet, and how many rules were tested.
 fn answer(alloc: Global, tree: &Tree<Node>, skip: &[Name], packet: &Packet) -> (Answer, u32) {
     let mut counted = Counted {
@@ -179,27 +201,23 @@ fn answer(alloc: Global, tree: &Tree<Node>, skip: &[Name], packet: &Packet) -> (
     (answer, counted.tests)
 }
 
-// The rulesets of a text: in each line a path and words of rules.
-fn tree_of(rt: &impl Abort, alloc: Global, text: &str) -> Tree<Node> {
+// The rulesets of a text, each a path and one or two rules.
+fn tree_of(rt: &impl Abort, alloc: Global, text: &str) -> Result<Tree<Node>, NoMemory> {
     let mut tree = Tree::new(alloc);
     for line in text.split(';') {
-        let mut rules = Vec::new(alloc);
-        let mut at = "/";
-        for (place, word) in line.split_whitespace().enumerate() {
-            if place == 0 {
-                at = word;
-            } else {
-                rules.push(rule(rt, word)).ok().expect(rt, "memory");
-            }
-        }
-        plant(rt, alloc, &mut tree, at, Level::Basic, &rules);
+        let mut words = line.split_whitespace();
+        let at = path(rt, words.next().unwrap_or("/"));
+        let first = rule(rt, words.next().unwrap_or("match"));
+        let second = rule(rt, words.next().unwrap_or("match"));
+        let node = node_of(alloc, Level::Basic, &[first, second], &[0, 0])?;
+        plant(alloc, &mut tree, &at, node)?;
     }
-    tree
+    Ok(tree)
 }
 
 #[test]
-fn anchors_in_trees(rt: HostRuntime) {
-    for (text, action, tag) in [
+fn anchors_in_trees(rt: HostRuntime) -> Result<(), Fail> {
+    for (text, word, tag) in [
         ("/ a! block; a match=seen", "block", "seen"),
         ("/ a! block; a pass=seen", "pass", "seen"),
         ("/ a pass; a block!", "block", ""),
@@ -208,83 +226,115 @@ fn anchors_in_trees(rt: HostRuntime) {
         ("/ block x; x ../y; y pass=y", "pass", "y"),
         ("/ block x; x ../../y; y pass=y", "block", ""),
         ("/ a! block; a /b; b c; b/c pass=c", "pass", "c"),
-        ("/ a pass!=out block; a b! block=a; a/b match=b", "pass", "out"),
+        ("/ a pass!=out; a b! block=a; a/b match=b", "pass", "out"),
         ("/ *; a block!=a; b pass=b", "block", "a"),
     ] {
-        let tree = tree_of(&rt, rt.alloc(), text);
+        let tree = tree_of(&rt, rt.alloc(), text)?;
         let (answer, _) = answer(rt.alloc(), &tree, &[], &query(&rt));
-        assert_eq!(rt; answer.decision.action, rule(&rt, action).effect.action, "{text}");
+        assert_eq!(rt; answer.decision.action, action(&rt, word), "{text}");
         assert_eq!(rt; answer.tag, Name::new(tag.as_bytes()), "{text}");
     }
+    Ok(())
+}
+
+#[test]
+fn calls_in_trees(rt: HostRuntime) -> Result<(), Fail> {
+    rows_tell_calls();
+    for (text, cycle) in [
+        ("/ x; x ../y; y pass", None),
+        ("/ x; x ../y; y /x", Some("x")),
+        ("/ *; a b/*; a/b/c ../../../a", Some("a")),
+    ] {
+        let tree = tree_of(&rt, rt.alloc(), text)?;
+        let rows = call_rows(rt.alloc(), &tree)?;
+        let fault = call_fault(rt.alloc(), &rows)?;
+        assert_eq!(rt; fault, cycle.map(|at| CallFault::Cycle(path(&rt, at))), "{text}");
+    }
+    Ok(())
 }
 
 // A pass rule that fails at the packet in this skip field first.
-fn failing(rt: &impl Abort, field: u8) -> Rule {
+fn failing(rt: &impl Abort, field: u8, quick: bool) -> Rule
+    ensures { names_none result ≡ true }
+{
     let elsewhere = AddrTest::Test {
         negated: false,
-        what: AddrSet::Prefix(pf_addr::parse_prefix(b"198.51.100/24").ok().expect(rt, "a prefix")),
+        what: AddrSet::Prefix(Prefix::of(&addr(rt, "198.51.100.1"))),
     };
     let other = Op16::make(OpKind::Equal, 80, 0);
     let em1 = IfTest::On {
         name: name(rt, "em1"),
         negated: false,
     };
-    let mut rule = PASS;
-    rule.criteria = Criteria {
-        iface: if field == 0 { em1 } else { IfTest::Any },
-        direction: (field == 1).then_some(Direction::Out),
-        family: (field == 2).then_some(Family::Inet6),
-        proto: (field == 3).then_some(6),
-        source: if field == 4 { elsewhere } else { AddrTest::Any },
-        source_port: (field == 5).then_some(other),
-        target: if field == 6 { elsewhere } else { AddrTest::Any },
-        target_port: (field == 7).then_some(other),
-        ..rule.criteria
-    };
-    rule
+    Rule {
+        criteria: Criteria {
+            iface: if field == 0 { em1 } else { IfTest::Any },
+            direction: (field == 1).then_some(Direction::Out),
+            family: (field == 2).then_some(Family::Inet6),
+            proto: (field == 3).then_some(6),
+            source: if field == 4 { elsewhere } else { AddrTest::Any },
+            source_port: (field == 5).then_some(other),
+            target: if field == 6 { elsewhere } else { AddrTest::Any },
+            target_port: (field == 7).then_some(other),
+            ..PASS.criteria
+        },
+        effect: Effect { quick, ..PASS.effect },
+    }
 }
 
 #[test]
-fn rules_equal_in_a_failing_field_are_passed_over(rt: HostRuntime) {
+fn rules_equal_in_a_failing_field_are_passed_over(rt: HostRuntime) -> Result<(), Fail> {
     for field in 0..8 {
-        let mut quick = failing(&rt, field);
-        quick.effect.quick = true;
-        let rules = [failing(&rt, field), quick, failing(&rt, field), PASS, PASS];
+        let one = failing(&rt, field, false);
+        let rules = [one, failing(&rt, field, true), one, PASS, PASS];
         let mut tree = Tree::new(rt.alloc());
-        plant(&rt, rt.alloc(), &mut tree, "/", Level::None, &rules);
+        let node = node_of(rt.alloc(), Level::None, &rules, &[0, 0, 0, 0, 0])?;
+        plant(rt.alloc(), &mut tree, &Path::main(), node)?;
         let (answer, tests) = answer(rt.alloc(), &tree, &[], &query(&rt));
         assert_eq!(rt; answer.decision.action, Action::Pass);
         assert_eq!(rt; tests, 3, "{field}");
     }
+    Ok(())
+}
+
+// `pass quick inet from HOST`
+fn host(rt: &impl Abort, host: &str) -> Rule
+    ensures { names_none result ≡ true }
+{
+    Rule {
+        criteria: Criteria {
+            family: Some(Family::Inet),
+            source: AddrTest::Test {
+                negated: false,
+                what: AddrSet::Prefix(Prefix::of(&addr(rt, host))),
+            },
+            ..PASS.criteria
+        },
+        effect: Effect { quick: true, ..PASS.effect },
+    }
 }
 
 #[test]
-fn one_test_for_a_packet_from_elsewhere(rt: HostRuntime) {
-    let mut rules = Vec::new(rt.alloc());
-    for host in ["10.0.0.1", "10.0.0.2", "10.0.0.3", "10.0.0.4", "10.0.0.5", "10.0.0.6"] {
-        let mut rule = PASS;
-        rule.effect.quick = true;
-        rule.criteria.family = Some(Family::Inet);
-        rule.criteria.source = AddrTest::Test {
-            negated: false,
-            what: AddrSet::Prefix(Prefix::of(&addr(&rt, host))),
-        };
-        rules.push(rule).ok().expect(&rt, "memory");
-    }
+fn one_test_for_a_packet_from_elsewhere(rt: HostRuntime) -> Result<(), Fail> {
+    let rules = [
+        host(&rt, "10.0.0.1"),
+        host(&rt, "10.0.0.2"),
+        host(&rt, "10.0.0.3"),
+        host(&rt, "10.0.0.4"),
+        host(&rt, "10.0.0.5"),
+        host(&rt, "10.0.0.6"),
+    ];
     let mut tree = Tree::new(rt.alloc());
-    plant(&rt, rt.alloc(), &mut tree, "/", Level::Basic, &rules);
+    let node = node_of(rt.alloc(), Level::Basic, &rules, &[0, 0, 0, 0, 0, 0])?;
+    plant(rt.alloc(), &mut tree, &Path::main(), node)?;
     let mut packet = query(&rt);
     let (inside, tests) = answer(rt.alloc(), &tree, &[], &packet);
     assert_eq!(rt; (inside.decision.state, tests), (StateKind::Keep, 1));
     packet.source = addr(&rt, "11.0.0.1");
     let (outside, tests) = answer(rt.alloc(), &tree, &[], &packet);
     assert_eq!(rt; (outside.decision.state, tests), (StateKind::None, 1));
-}
-
-#[test]
-fn a_skipped_interface_meets_no_test(rt: HostRuntime) {
-    let tree = tree_of(&rt, rt.alloc(), "/ block!=tag");
-    let (answer, tests) = answer(rt.alloc(), &tree, &[name(&rt, "em")], &query(&rt));
-    assert!(rt; answer.skip);
-    assert_eq!(rt; (answer.decision.action, answer.tag, tests), (Action::Pass, None, 0));
+    let (skipped, tests) = answer(rt.alloc(), &tree, &[name(&rt, "em")], &query(&rt));
+    assert!(rt; skipped.skip);
+    assert_eq!(rt; (skipped.decision.action, tests), (Action::Pass, 0));
+    Ok(())
 }

@@ -1,5 +1,5 @@
 //! The walk through the rulesets of a tree.
-ghost use Rattle.std.specs.Prelude.{◌≡◌, ◌+◌, ◌<◌, ◌++◌, ◌∷◌, [], drop, false, length, Some, if◌then◌else◌};
+ghost use Rattle.std.specs.Prelude.{◌≡◌, ◌+◌, ◌<◌, ◌++◌, ◌∷◌, ◌||◌, ◌&&◌, [], drop, false, length, Some, if◌then◌else◌};
 ghost use Rattle.std.specs.FinMap as fin;
 ghost use Rattle.std.specs.Option.{option_copied};
 ghost use Rattle.pf_base.specs.Path.{child_path, is_reserved};
@@ -11,11 +11,12 @@ ghost use Rattle.pf_parts.specs.CallTarget.{target_of};
 ghost use Rattle.pf_rule.specs.Walking.{walked_through};
 
 use crate::laws::{optimised_walk_is_written, ruleset_is_sound};
+use crate::rows::call_by;
 use crate::tables::Tables;
 use pf_base::{Ledger, Name, Path, Steps};
 use pf_host::Facts;
 use pf_optim::Node;
-use pf_rule::{Action, Call, Marks, Probe, Rule, Tested, equal_fields_test_alike};
+use pf_rule::{Call, Marks, Probe, Rule, Tested, equal_fields_test_alike};
 use pf_tree::Tree;
 
 /// What is lent to a walk: the tree, and the facts of the host.
@@ -42,15 +43,16 @@ pub(crate) fn walk_ruleset<P: Probe<L>, L: Ledger>(
     if left == 0 {
         return;
     }
-    if let Some(node) = site.tree.get(at) {
-        let tables = Tables {
-            own: node,
-            main: site.tree.get(&Path::main()),
-        };
-        ruleset_is_sound(&node.rules);
-        optimised_walk_is_written();
-        walk_rules(site, &tables, at, left - 1, probe, steps);
-    }
+    let Some(node) = site.tree.get(at) else {
+        return;
+    };
+    let tables = Tables {
+        own: node,
+        main: site.tree.get(&Path::main()),
+    };
+    ruleset_is_sound(&node.rules);
+    optimised_walk_is_written();
+    walk_rules(site, &tables, at, left - 1, probe, steps);
 }
 
 // Walks the optimised rules of the ruleset at a path, where so many rulesets more may be walked.
@@ -133,11 +135,9 @@ fn act<P: Probe<L>, L: Ledger>(
     ensures counted { let trees = site.now.tree.now.payloads in let facts = site.now.facts.now in
         steps.new ≡ steps.old + rule_tests trees facts left at.now rule.now (P.walk probe.old) }
 {
-    match &rule.effect.action {
-        Action::Anchor(call) => {
-            walk_anchor(site, call, rule.effect.quick, at, left, probe, steps);
-        }
-        Action::Pass | Action::Block(_) | Action::Match => probe.apply(rule),
+    match call_by(&rule.effect.action) {
+        Some(call) => walk_anchor(site, call, rule.effect.quick, at, left, probe, steps),
+        None => probe.apply(rule),
     }
 }
 
@@ -165,10 +165,17 @@ fn walk_anchor<P: Probe<L>, L: Ledger>(
     });
     walk_called(site, call, at, left, probe, steps);
     let after = probe.marks();
-    probe.set_marks(Marks {
+    probe.set_marks(marks_behind(quick, before, after));
+}
+
+// The marks behind an anchor, by those before its rules and those after them.
+fn marks_behind(quick: bool, before: Marks, after: Marks) -> Marks
+    ensures { result ≡ record { matched = before.matched || after.matched; stop = after.stop || (quick && after.matched) } }
+{
+    Marks {
         matched: before.matched || after.matched,
         stop: after.stop || (quick && after.matched),
-    });
+    }
 }
 
 // Walks the ruleset that is called, or with a wildcard those right below it.
@@ -239,9 +246,10 @@ fn walk_child<P: Probe<L>, L: Ledger>(
     if is_nameless(name) {
         return;
     }
-    if let Some(child) = at.child(name) {
-        walk_ruleset(site, &child, left, probe, steps);
-    }
+    let Some(child) = at.child(name) else {
+        return;
+    };
+    walk_ruleset(site, &child, left, probe, steps);
 }
 
 // Whether a name is that of an anchor without a name: it begins with `_`.
