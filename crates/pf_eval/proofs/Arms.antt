@@ -1,6 +1,5 @@
 -- What is left of a ruleset's walk after the test of a rule, by what it finds.
-use Rattle.std.proofs.Common.{◌≡◌, ℕ, zero, suc, ◌+◌, ◌<◌, cond, Bool, true, false, IsTrue, List, [], ◌∷◌, length, get_or, drop, Option, Some, None, refl, sym, ap, ◌∙◌, subst, arith}
-use Rattle.std.proofs.lemmas.Bool.{false≢true}
+use Rattle.std.proofs.Common.{◌≡◌, ℕ, ◌+◌, ◌<◌, cond, true, false, List, [], length, get_or, drop, Option, Some, None, refl, sym, ap, ◌∙◌, arith}
 use Rattle.std.specs.FinMap as fin
 use Rattle.pf_eval.proofs.Skipping as skipping
 use Rattle.pf_eval.specs.Answers.{optimised_world}
@@ -11,10 +10,9 @@ use Rattle.pf_host.specs.Queries.{dynamic, in_group}
 use Rattle.pf_optim.specs.Ruleset.{form_of}
 use Rattle.pf_optim.specs.Skips.{skip}
 use Rattle.pf_optim.specs.declared.node.Node.{Node}
-use Rattle.pf_order.specs.Order.{value_at}
 use Rattle.pf_rule.specs.Around.{Around, around_by}
 use Rattle.pf_rule.specs.Fields.{AgreeIn}
-use Rattle.pf_rule.specs.Hit.{Finds, fails_at, hits_at, missed_at, tested_at}
+use Rattle.pf_rule.specs.Hit.{Finds, fails_at, hits_at, missed_at}
 use Rattle.pf_rule.specs.Walking.{walked_through}
 use Rattle.pf_rule.specs.declared.rule.Rule.{Rule}
 use Rattle.pf_rule.specs.declared.testing.Tested.{Tested}
@@ -74,9 +72,9 @@ module _ (trees : Rulesets) (facts : HostFacts) (left : ℕ) (at : List (List �
   pub hit_tests : Finds around rule walk Hit → (new : Walk) (before tested after : ℕ) → new ≡ deed_at trees facts left at rule.effect.action rule.effect walk → tested ≡ before + 1 → after ≡ tested + rule_tests trees facts left at rule walk → after + list_tests trees facts left at (drop (place + 1) rules) new ≡ before + list_tests trees facts left at (drop place rules) walk
   hit_tests finds new before tested after e one more =
       let here : list_tests trees facts left at (drop place rules) walk ≡ 1 + rule_tests trees facts left at rule walk + list_tests trees facts left at (drop (place + 1) rules) (deed_at trees facts left at rule.effect.action rule.effect walk) =
-          skipping.hit_tests (on_optimised trees facts left at) (found_at trees facts left at) (rule_tests trees facts left at) walk going rules place rule inside is (hit_found around rule walk finds) (sym finds.value) in
+      skipping.hit_tests (on_optimised trees facts left at) (found_at trees facts left at) (rule_tests trees facts left at) walk going rules place rule inside is (hit_found around rule walk finds) (sym finds.value) in
       let moved : list_tests trees facts left at (drop (place + 1) rules) new ≡ list_tests trees facts left at (drop (place + 1) rules) (deed_at trees facts left at rule.effect.action rule.effect walk) =
-          ap (λ (w : Walk). list_tests trees facts left at (drop (place + 1) rules) w) e in
+      ap (λ (w : Walk). list_tests trees facts left at (drop (place + 1) rules) w) e in
       omega (arith, one, more, here, moved)
 
   pub other_walk : Finds around rule walk Other → walked_through (on_optimised trees facts left at) (drop (place + 1) rules) walk ≡ walked_through (on_optimised trees facts left at) (drop place rules) walk
@@ -86,7 +84,7 @@ module _ (trees : Rulesets) (facts : HostFacts) (left : ℕ) (at : List (List �
   pub other_tests : Finds around rule walk Other → (before tested : ℕ) → tested ≡ before + 1 → tested + list_tests trees facts left at (drop (place + 1) rules) walk ≡ before + list_tests trees facts left at (drop place rules) walk
   other_tests finds before tested one =
       let here : list_tests trees facts left at (drop place rules) walk ≡ 1 + list_tests trees facts left at (drop (place + 1) rules) walk =
-          skipping.other_tests (on_optimised trees facts left at) (found_at trees facts left at) (rule_tests trees facts left at) walk going rules place rule inside is (other_found around rule walk finds) (sym finds.value) in
+      skipping.other_tests (on_optimised trees facts left at) (found_at trees facts left at) (rule_tests trees facts left at) walk going rules place rule inside is (other_found around rule walk finds) (sym finds.value) in
       omega (arith, one, here)
 
   pub skip_walk : FieldLaw → (field : ℕ) → Finds around rule walk (Field field) → walked_through (on_optimised trees facts left at) (drop (skip rules place field) rules) walk ≡ walked_through (on_optimised trees facts left at) (drop place rules) walk
@@ -97,5 +95,5 @@ module _ (trees : Rulesets) (facts : HostFacts) (left : ℕ) (at : List (List �
   pub skip_tests : (field : ℕ) → Finds around rule walk (Field field) → (before tested : ℕ) → tested ≡ before + 1 → tested + list_tests trees facts left at (drop (skip rules place field) rules) walk ≡ before + list_tests trees facts left at (drop place rules) walk
   skip_tests field finds before tested one =
       let here : list_tests trees facts left at (drop place rules) walk ≡ 1 + list_tests trees facts left at (drop (skip rules place field) rules) walk =
-          skipping.skip_tests (on_optimised trees facts left at) (found_at trees facts left at) (rule_tests trees facts left at) walk going rules place rule inside is field (field_found around rule walk field finds).0 (sym finds.value) in
+      skipping.skip_tests (on_optimised trees facts left at) (found_at trees facts left at) (rule_tests trees facts left at) walk going rules place rule inside is field (field_found around rule walk field finds).0 (sym finds.value) in
       omega (arith, one, here)

@@ -1,5 +1,5 @@
 -- Where calls go in no circle and not too deep, the bound of a walk isn't seen.
-use Rattle.std.proofs.Common.{◌≡◌, ℕ, zero, suc, ◌+◌, ◌<◌, ◌≤◌, cond, Bool, true, false, not, ◌||◌, List, [], ◌∷◌, ◌++◌, length, get_or, map, Option, Some, None, is_some, refl, sym, ap, ◌∙◌, subst, inl, inr, arith, if◌then◌else◌}
+use Rattle.std.proofs.Common.{◌≡◌, ℕ, zero, suc, ◌<◌, ◌≤◌, cond, Bool, true, false, not, ◌||◌, List, [], ◌∷◌, ◌++◌, get_or, map, Option, Some, None, is_some, refl, sym, ap, ◌∙◌, subst, inl, inr, arith, if◌then◌else◌}
 use Rattle.std.specs.Prelude.{Contains}
 use Rattle.std.proofs.lemmas.Bool.{false≢true}
 use Rattle.std.proofs.lemmas.Map.Made.{is_member-Decides}
@@ -8,16 +8,16 @@ use Rattle.std.specs.Bool.{Decides}
 use Rattle.std.specs.Cmp.{tied_itself}
 use Rattle.std.specs.Cmp.Lexicographic.{pointwise_decides}
 use Rattle.std.specs.FinMap as fin
-use Rattle.std.specs.FinMap.{FinMap, find as find_key}
-use Rattle.std.specs.List.{filter, filter_map, flat_map, list_any}
+use Rattle.std.specs.FinMap.{find as find_key}
+use Rattle.std.specs.List.{filter_map, list_any}
 use Rattle.std.specs.Option.{option_and_then}
 use Rattle.std.specs.Ordering.{eq_by_cmp, is_eq}
 use Rattle.std.specs.declared.cmp.Ordering.{Ordering}
 use Rattle.std.specs.declared.cmp.Ordering.TheVariants.{Less, Equal, Greater}
 use Rattle.pf_base.specs.Path.{is_reserved}
-use Rattle.pf_calls.specs.Calls.{call_graph, called as called_paths, child_on, children_of, led_to, named_below, path_eq}
-use Rattle.pf_calls.specs.Graph.{Graph, IsRanking, IsShallow, IsStep}
-use Rattle.pf_calls.specs.GraphLaws.{in_cons, in_or_out, later_in, none_in, now_in, rank_falls, rank_inside}
+use Rattle.pf_calls.specs.Calls.{called as called_paths, child_on, children_of, led_to, named_below, path_eq}
+use Rattle.pf_calls.specs.Graph.{Graph, IsRanking, IsShallow}
+use Rattle.pf_calls.specs.GraphLaws.{in_or_out, later_in, now_in, rank_falls, rank_inside}
 use Rattle.pf_eval.specs.Answers.{written_world}
 use Rattle.pf_eval.specs.Rulesets.{Rulesets, call_of, calls_in, graph_in, named_children, written_in}
 use Rattle.pf_eval.specs.World.{IsWalk, Walker, World, acted, called, each_child, has_stopped, walk_at, walk_within, walking_at}
@@ -31,7 +31,7 @@ use Rattle.pf_rule.specs.declared.effect.Action.{Action}
 use Rattle.pf_rule.specs.declared.effect.Action.TheVariants.{Pass, Block, Match, Anchor}
 use Rattle.pf_rule.specs.declared.effect.Effect.{Effect}
 use Rattle.pf_rule.specs.declared.rule.Rule.{Rule}
-use Rattle.pf_tree.specs.GrownLaws.{name_same, name_total, path_same, path_total}
+use Rattle.pf_tree.specs.GrownLaws.{name_same, name_total, path_same}
 use Rattle.pf_tree.specs.Order.{name_cmp, path_cmp}
 use Rattle.pf_tree.specs.Paths.{child_names, in_byte_order, name_behind}
 
@@ -92,8 +92,8 @@ child_led_to trees at name within =
     let kept = passes (λ (n : List ℕ). not (is_reserved n)) (child_names trees at) name within in
     let behind = given (name_behind at) (fin.keys trees) name (ordered_in (filter_map (name_behind at) (fin.keys trees)) name kept.0) in
     let child : child_on at behind.item ≡ Some (at ++ name ∷ []) =
-        ap (option_and_then (named_below at)) behind.so
-        ∙ ap (λ (b : Bool). if b then None else Some (at ++ name ∷ [])) (not_so (is_reserved name) kept.1) in
+    ap (option_and_then (named_below at)) behind.so
+    ∙ ap (λ (b : Bool). if b then None else Some (at ++ name ∷ [])) (not_so (is_reserved name) kept.1) in
     gives (child_on at) (fin.keys trees) behind.item (at ++ name ∷ []) behind.among child
 
 -- ---- what a rule does depends on the paths alone to which it leads

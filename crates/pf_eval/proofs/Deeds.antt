@@ -1,5 +1,5 @@
 -- What a rule does that matches, by the call that it has.
-use Rattle.std.proofs.Common.{◌≡◌, ℕ, ◌+◌, Bool, true, false, List, Option, Some, None, refl, sym, ap, ◌∙◌}
+use Rattle.std.proofs.Common.{◌≡◌, ℕ, Bool, true, false, List, Option, Some, None, refl, sym, ap}
 use Rattle.pf_eval.specs.Chain.{tests_acted}
 use Rattle.pf_eval.specs.Rulesets.{Rulesets, call_of, named_children}
 use Rattle.pf_eval.specs.Steps.{call_at, call_tests, children_tests, children_walk, deed_at, tests_left, walk_left}

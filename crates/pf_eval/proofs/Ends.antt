@@ -1,5 +1,5 @@
 -- What the parts of a walk come to, over plain variables: a ruleset, an anchor rule, the children that a wildcard walks.
-use Rattle.std.proofs.Common.{◌≡◌, ℕ, zero, suc, ◌+◌, ◌-◌, ◌<◌, ◌≤◌, cond, Bool, true, false, not, ◌&&◌, ◌||◌, List, [], ◌∷◌, ◌++◌, length, drop, Option, Some, None, refl, sym, ap, ◌∙◌, arith, if◌then◌else◌}
+use Rattle.std.proofs.Common.{◌≡◌, ℕ, zero, suc, ◌+◌, ◌-◌, ◌<◌, ◌≤◌, Bool, true, false, not, ◌&&◌, ◌||◌, List, [], ◌∷◌, ◌++◌, length, drop, Option, Some, None, refl, sym, ap, ◌∙◌, arith, if◌then◌else◌}
 use Rattle.std.specs.FinMap as fin
 use Rattle.std.specs.List.{filter}
 use Rattle.pf_base.specs.Path.{is_reserved}
@@ -9,7 +9,7 @@ use Rattle.pf_eval.specs.Rulesets.{Rulesets, named_children, optimised_in, writt
 use Rattle.pf_eval.specs.Steps.{call_at, call_tests, children_tests, children_walk, found_at, list_tests, named_after, names_after, on_optimised, on_written, rule_tests, tests_left, walk_left}
 use Rattle.pf_eval.specs.World.{anchored, behind_anchor, inside_anchor, packet_walker}
 use Rattle.pf_host.specs.Facts.{HostFacts}
-use Rattle.pf_optim.specs.Ruleset.{IsSound, form_of}
+use Rattle.pf_optim.specs.Ruleset.{form_of}
 use Rattle.pf_optim.specs.declared.node.Node.{Node}
 use Rattle.pf_parts.specs.CallTarget.{target_of}
 use Rattle.pf_parts.specs.declared.call.Call.{Call}
@@ -143,6 +143,6 @@ module _ (trees : Rulesets) (facts : HostFacts) (left : ℕ) (at : List (List �
     children_step_tests going new before after new_is after_is =
         let moved = ap (λ (w : Walk). children_tests trees facts left at (named_after trees at (Some name)) w) new_is in
         let here : children_tests trees facts left at (named_after trees at last) now ≡ (if is_reserved name then 0 else tests_left trees facts left (at ++ name ∷ []) now) + children_tests trees facts left at (named_after trees at (Some name)) (if is_reserved name then now else walk_left trees facts left (at ++ name ∷ []) now) =
-            ap (λ (names : List (List ℕ)). children_tests trees facts left at names now) left_names
-            ∙ behind.next_below packet_walker (walk_left trees facts left) (tests_left trees facts left) at now name (names_after (Some name) (child_names trees at)) going in
+        ap (λ (names : List (List ℕ)). children_tests trees facts left at names now) left_names
+        ∙ behind.next_below packet_walker (walk_left trees facts left) (tests_left trees facts left) at now name (names_after (Some name) (child_names trees at)) going in
         omega (arith, after_is, moved, here)

@@ -1,6 +1,6 @@
 -- The longest of entries, found from the first on.
-use Rattle.std.proofs.Common.{◌≡◌, ℕ, cond, Bool, true, false, List, [], ◌∷◌, Option, Some, None, nat_lt, refl, sym, ap, ◌∙◌, arith, if◌then◌else◌}
-use Rattle.std.proofs.lemmas.Bool.{false≢true, lt-ltb, ltb-false, ltb-true}
+use Rattle.std.proofs.Common.{◌≡◌, cond, Bool, true, false, List, ◌∷◌, Option, Some, None, nat_lt, refl, sym, ap, ◌∙◌, arith}
+use Rattle.std.proofs.lemmas.Bool.{ltb-false, ltb-true}
 use Rattle.pf_addr.specs.Prefix.{contains}
 use Rattle.pf_addr.specs.declared.addr.Addr.{Addr}
 use Rattle.pf_eval.specs.Longest.{longer, longest_with}

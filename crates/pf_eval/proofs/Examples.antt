@@ -2,12 +2,10 @@
 use Rattle.std.proofs.Common.{◌≡◌, ℕ, Bool, true, false, List, [], ◌∷◌, Option, Some, None, refl, if◌then◌else◌}
 use Rattle.std.specs.Prelude.{codes}
 use Rattle.pf_calls.specs.Calls.{path_eq}
-use Rattle.pf_eval.specs.World.{World, packet_walker, walk_within}
+use Rattle.pf_eval.specs.World.{packet_walker, walk_within}
 use Rattle.pf_parts.specs.CallTarget.{target_of}
 use Rattle.pf_parts.specs.Defaults.{no_options}
-use Rattle.pf_parts.specs.declared.call.Base.{Base}
-use Rattle.pf_parts.specs.declared.call.Base.TheVariants.{Below, Root, Up}
-use Rattle.pf_parts.specs.declared.call.Call.{Call}
+use Rattle.pf_parts.specs.declared.call.Base.TheVariants.{Below, Up}
 use Rattle.pf_parts.specs.declared.matching.IfTest.TheVariants as interface
 use Rattle.pf_parts.specs.declared.matching.TagTest.TheVariants as tag
 use Rattle.pf_parts.specs.declared.state.StateKind.TheVariants as state

@@ -1,5 +1,5 @@
 -- Where paths and calls are taken away, no rank rises.
-use Rattle.std.proofs.Common.{◌≡◌, ℕ, zero, suc, Bool, true, false, List, [], ◌∷◌, ◌++◌, length, Option, Some, None, refl, sym, ap, ◌∙◌, subst, inl, inr, arith, ◌⊎◌}
+use Rattle.std.proofs.Common.{◌≡◌, ℕ, zero, suc, Bool, true, false, List, [], ◌∷◌, ◌++◌, Option, Some, None, sym, ◌∙◌, subst, inl, inr, ◌⊎◌}
 use Rattle.std.specs.Prelude.{Contains}
 use Rattle.std.proofs.lemmas.Map.Made.{is_member-Decides}
 use Rattle.std.specs.FinMap as fin
@@ -12,7 +12,6 @@ use Rattle.pf_eval.proofs.Lists.{given, gives, in_flat}
 use Rattle.pf_eval.specs.Rows.{CallsNoMore}
 use Rattle.pf_eval.specs.Rulesets.{Rulesets, calls_in, graph_in, written_in}
 use Rattle.pf_parts.specs.CallTarget.{target_of}
-use Rattle.pf_parts.specs.declared.call.Call.{Call}
 
 module _ {A : Type 0} (g h : Graph A) (has : (a : A) → g.has a ≡ true → h.has a ≡ true) (steps : (a b : A) → Contains (g.steps a) b → Contains (h.steps a) b) where
   within_less : (n : ℕ) (a : A) → is_within h n a ≡ true → is_within g n a ≡ true

@@ -3,7 +3,6 @@ use Rattle.std.proofs.Common.{◌≡◌, ℕ, List, [], Option, Some, None, refl
 use Rattle.std.specs.FinMap as fin
 use Rattle.std.specs.Option.{option_map, option_map_or, option_or}
 use Rattle.pf_eval.specs.Rulesets.{entries_named, tables_in}
-use Rattle.pf_optim.specs.declared.node.Node.{Node}
 use Rattle.pf_shelf.specs.Shelf.{Tables, name_cmp}
 use Rattle.pf_shelf.specs.declared.decl.Shelved.{Shelved}
 use Rattle.pf_table.specs.Table.{Signs, entries_of}

@@ -1,8 +1,8 @@
 -- The walk through rules from a place on, and its tests, by what the test of the rule there finds.
-use Rattle.std.proofs.Common.{◌≡◌, ℕ, zero, suc, ◌+◌, ◌<◌, cond, Bool, true, false, List, [], ◌∷◌, map, length, get_or, drop, Option, Some, None, refl, sym, ap, ◌∙◌, arith}
+use Rattle.std.proofs.Common.{◌≡◌, ℕ, zero, suc, ◌+◌, ◌<◌, cond, Bool, true, false, List, [], ◌∷◌, length, get_or, drop, Option, Some, refl, sym, ap, ◌∙◌, arith}
 use Rattle.std.proofs.lemmas.List.{at_drop_more}
 use Rattle.std.proofs.lemmas.Option.{slice_get-get_or, slice_get-map}
-use Rattle.std.specs.List.{prefix_len, slice_get}
+use Rattle.std.specs.List.{slice_get}
 use Rattle.std.specs.Option.{option_map}
 use Rattle.pf_base.specs.Equality.{options}
 use Rattle.pf_eval.proofs.Lists.{drop_plus}
@@ -27,7 +27,7 @@ unfolding skip
 behind_skip rules place field rule h is =
     let here : slice_get rules place ≡ Some rule = slice_get-get_or rules place rule h ∙ ap Some (sym is) in
     let value : slice_get (values_at field rules) place ≡ Some (value_at field rule) =
-        slice_get-map (value_at field) rules place ∙ ap (option_map (value_at field)) here in
+    slice_get-map (value_at field) rules place ∙ ap (option_map (value_at field)) here in
     ap (λ (v : Option (Option FieldValue)). drop (place + 1 + run_of v field (drop (place + 1) rules)) rules) value
     ∙ drop_plus (place + 1) (run_of (Some (value_at field rule)) field (drop (place + 1) rules)) rules
 

@@ -1,13 +1,11 @@
 -- The optimised rules of a ruleset stand for its written rules, wherever it is walked.
-use Rattle.std.proofs.Common.{◌≡◌, ℕ, zero, suc, ◌+◌, ◌<◌, Bool, true, false, List, [], ◌∷◌, map, length, get_or, Option, Some, None, refl, sym, ap, ◌∙◌, subst, arith}
+use Rattle.std.proofs.Common.{◌≡◌, ℕ, zero, suc, ◌<◌, false, List, [], map, length, get_or, Option, Some, None, refl, sym, ap, ◌∙◌, subst, arith}
 use Rattle.std.proofs.lemmas.Bool.{false≢true}
-use Rattle.std.proofs.lemmas.List.{length-map}
 use Rattle.std.proofs.lemmas.List.FromFn.{get_or-range_with_len}
 use Rattle.std.proofs.lemmas.Option.{get_or_from_slice_get, slice_get-get_or, slice_get-map}
 use Rattle.std.specs.FinMap as fin
 use Rattle.std.specs.List.{range_with_len, slice_get}
 use Rattle.std.specs.Option.{option_map, option_map_or}
-use Rattle.pf_addr.specs.declared.addr.Addr.{Addr}
 use Rattle.pf_auto.specs.Standing.{StandFor}
 use Rattle.pf_auto.specs.declared.merging.AutoTable.{AutoTable}
 use Rattle.pf_base.specs.declared.kind.Level.{Level}
@@ -15,11 +13,10 @@ use Rattle.pf_eval.specs.Answers.{optimised_world, written_world}
 use Rattle.pf_eval.specs.Rulesets.{AreSound, Rulesets, around_in, automatic_in, named_children, optimised_in, tables_in, written_in}
 use Rattle.pf_eval.specs.World.{ActsOnce, StandForEachOther, Walker, World, acted, has_stopped, walk_within, walking_at}
 use Rattle.pf_host.specs.Facts.{HostFacts}
-use Rattle.pf_optim.specs.Meaning.{ActAlike, AgreeOnDeclared, KeepsWalks, StandBeside, WalksRules}
+use Rattle.pf_optim.specs.Meaning.{KeepsWalks, StandBeside, WalksRules}
 use Rattle.pf_optim.specs.Optimised.{optimised}
 use Rattle.pf_optim.specs.Ruleset.{IsSound, Written, form_of}
 use Rattle.pf_optim.specs.declared.node.Node.{Node}
-use Rattle.pf_parts.specs.declared.call.Call.{Call}
 use Rattle.pf_rule.specs.Around.{Around}
 use Rattle.pf_rule.specs.Effect.{is_anchor}
 use Rattle.pf_rule.specs.Hit.{hits_at}
@@ -42,7 +39,7 @@ number_of : (tables : List AutoTable) → map (λ table. table.number) tables �
 number_of tables numbers k d low =
     let here = slice_get-get_or tables k d low in
     let seen : slice_get (map (λ (table : AutoTable). table.number) tables) k ≡ Some (get_or tables k d).number =
-        slice_get-map (λ (table : AutoTable). table.number) tables k ∙ ap (option_map (λ (table : AutoTable). table.number)) here in
+    slice_get-map (λ (table : AutoTable). table.number) tables k ∙ ap (option_map (λ (table : AutoTable). table.number)) here in
     let named = get_or_from_slice_get (map (λ (table : AutoTable). table.number) tables) k (get_or tables k d).number 0 seen in
     let listed = ap (λ (numbers : List ℕ). get_or numbers k 0) numbers in
     let counted = get_or-range_with_len 0 (length tables) k 0 low in

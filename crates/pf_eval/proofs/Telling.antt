@@ -1,5 +1,5 @@
 -- The rows of a tree: they stand in path order, and their graph is that of the tree's calls.
-use Rattle.std.proofs.Common.{◌≡◌, ℕ, Bool, true, false, ◌||◌, List, [], ◌∷◌, ◌++◌, map, Option, Some, None, refl, sym, ap, ◌∙◌, subst, inl, inr, if◌then◌else◌, T}
+use Rattle.std.proofs.Common.{◌≡◌, ℕ, Bool, true, false, ◌||◌, List, [], ◌∷◌, map, refl, sym, ap, ◌∙◌, subst, inl, inr, if◌then◌else◌, T}
 use Rattle.std.specs.Prelude.{Contains}
 use Rattle.std.proofs.lemmas.Bool.{and_parts, false≢true}
 use Rattle.std.specs.FinMap as fin
@@ -11,14 +11,12 @@ use Rattle.std.specs.Ordering.{is_lt}
 use Rattle.std.specs.declared.cmp.Ordering.{Ordering}
 use Rattle.std.specs.declared.cmp.Ordering.TheVariants.{Less, Equal, Greater}
 use Rattle.pf_calls.specs.CallLaws.{rows_calls}
-use Rattle.pf_calls.specs.Calls.{call_graph, called, calls_at, graph_of, path_eq, paths_of}
-use Rattle.pf_calls.specs.Graph.{Graph}
+use Rattle.pf_calls.specs.Calls.{call_graph, calls_at, graph_of, path_eq, paths_of}
 use Rattle.pf_calls.specs.GraphLaws.{in_cons, in_or_out, later_in, none_in, now_in}
 use Rattle.pf_calls.specs.declared.row.CallRow.{CallRow}
 use Rattle.pf_eval.proofs.Bounds.{no_rules}
 use Rattle.pf_eval.specs.Rows.{row_of, rows_in}
 use Rattle.pf_eval.specs.Rulesets.{Rulesets, calls_in, graph_in, written_in}
-use Rattle.pf_optim.specs.declared.node.Node.{Node}
 use Rattle.pf_rule.specs.declared.rule.Rule.{Rule}
 use Rattle.pf_tree.specs.Order.{path_cmp}
 

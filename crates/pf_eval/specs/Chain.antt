@@ -30,7 +30,7 @@ tests_in on test cost (rule ∷ rules) (suc passed) walk = tests_in on test cost
 tests_in on test cost (rule ∷ rules) zero walk =
     if on.stopped walk then 0
     else 1 + (if on.hits rule walk then cost rule walk else 0)
-        + tests_in on test cost rules (passed_over (test rule walk) rule rules) (walked_past on rule walk)
+    + tests_in on test cost rules (passed_over (test rule walk) rule rules) (walked_past on rule walk)
 
 module _ {W : Type 0} (by : Walker W) (call : List (List ℕ) → W → W) (tests : List (List ℕ) → W → ℕ) where
   -- in the rulesets with these names right below a path

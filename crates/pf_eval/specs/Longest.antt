@@ -1,5 +1,5 @@
 -- The longest of the entries that have an address in them, as the code finds it from the first on.
-use Rattle.std.specs.Prelude.{ℕ, Option, Some, None, nat_lt, if◌then◌else◌}
+use Rattle.std.specs.Prelude.{Option, Some, None, nat_lt, if◌then◌else◌}
 use Rattle.pf_table.specs.Table.{narrower}
 use Rattle.pf_table.specs.declared.entry.Entry.{Entry}
 

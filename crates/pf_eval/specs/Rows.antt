@@ -1,5 +1,5 @@
 -- The rows of a tree's rulesets: their paths, and what their anchor rules call (pf.conf(5), ANCHORS).
-use Rattle.std.specs.Prelude.{◌≡◌, ℕ, List, map, Contains}
+use Rattle.std.specs.Prelude.{ℕ, List, map, Contains}
 use Rattle.std.specs.FinMap as fin
 use Rattle.pf_calls.specs.declared.row.CallRow.{CallRow}
 use Rattle.pf_eval.specs.Rulesets.{Rulesets, calls_in, written_in}

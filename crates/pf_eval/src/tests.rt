@@ -11,8 +11,9 @@ use pf_host::Facts;
 use pf_ops::{Op16, OpKind};
 use pf_optim::optimise;
 use pf_rule::{
-    Action, AddrSet, AddrTest, Answer, Base, BlockKind, Call, Criteria, Direction, Effect, IfTest, Marks,
-    Members, Packet, Params, Probe, Rule, StateKind, StateOptions, TagTest, Tested, Walk, hit,
+    Action, AddrSet, AddrTest, Answer, Base, BlockKind, Call, Criteria, Direction, Effect, IfTest,
+    Marks, Members, Packet, Params, Probe, Rule, StateKind, StateOptions, TagTest, Tested, Walk,
+    hit,
 };
 use pf_tree::{Blank, Tree};
 use std::alloc::Global;
@@ -49,6 +50,7 @@ const PASS: Rule = Rule {
 };
 
 // A walk that counts its tests.
+#[derive(Drop)]
 struct Counted {
     walk: Walk,
     tests: u32,
@@ -188,7 +190,9 @@ fn query(rt: &impl Abort) -> Packet {
 }
 
 fn addr(rt: &impl Abort, text: &str) -> Addr {
-    pf_addr::parse_addr(text.as_bytes()).ok().expect(rt, "an address")
+    pf_addr::parse_addr(text.as_bytes())
+        .ok()
+        .expect(rt, "an address")
 }
 
 // The answer to a packet, and how many rules were tested.
@@ -197,7 +201,13 @@ fn answer(alloc: Global, tree: &Tree<Node>, skip: &[Name], packet: &Packet) -> (
         walk: Walk::begin(packet),
         tests: 0,
     };
-    let answer = eval(tree, &Facts::none(alloc), skip, &mut counted, &mut Steps::start());
+    let answer = eval(
+        tree,
+        &Facts::none(alloc),
+        skip,
+        &mut counted,
+        &mut Steps::start(),
+    );
     (answer, counted.tests)
 }
 
@@ -222,7 +232,11 @@ fn anchors_in_trees(rt: HostRuntime) -> Result<(), Fail> {
         ("/ a! block; a pass=seen", "pass", "seen"),
         ("/ a pass; a block!", "block", ""),
         ("/ a! pass; a match!=seen", "pass", "seen"),
-        ("/ x/*; x/b pass=b; x/a block=a; x/a/c pass!=c; x _1; x/_1 pass!=anon", "pass", "b"),
+        (
+            "/ x/*; x/b pass=b; x/a block=a; x/a/c pass!=c; x _1; x/_1 pass!=anon",
+            "pass",
+            "b",
+        ),
         ("/ block x; x ../y; y pass=y", "pass", "y"),
         ("/ block x; x ../../y; y pass=y", "block", ""),
         ("/ a! block; a /b; b c; b/c pass=c", "pass", "c"),
@@ -248,7 +262,11 @@ fn calls_in_trees(rt: HostRuntime) -> Result<(), Fail> {
         let tree = tree_of(&rt, rt.alloc(), text)?;
         let rows = call_rows(rt.alloc(), &tree)?;
         let fault = call_fault(rt.alloc(), &rows)?;
-        assert_eq!(rt; fault, cycle.map(|at| CallFault::Cycle(path(&rt, at))), "{text}");
+        assert_eq!(rt;
+            fault,
+            cycle.map(|at| CallFault::Cycle(path(&rt, at))),
+            "{text}"
+        );
     }
     Ok(())
 }
@@ -278,7 +296,10 @@ fn failing(rt: &impl Abort, field: u8, quick: bool) -> Rule
             target_port: (field == 7).then_some(other),
             ..PASS.criteria
         },
-        effect: Effect { quick, ..PASS.effect },
+        effect: Effect {
+            quick,
+            ..PASS.effect
+        },
     }
 }
 
@@ -310,7 +331,10 @@ fn host(rt: &impl Abort, host: &str) -> Rule
             },
             ..PASS.criteria
         },
-        effect: Effect { quick: true, ..PASS.effect },
+        effect: Effect {
+            quick: true,
+            ..PASS.effect
+        },
     }
 }
 

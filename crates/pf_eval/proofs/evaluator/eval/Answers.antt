@@ -1,4 +1,4 @@
-use Rattle.std.proofs.Common.{◌≡◌, ℕ, ◌+◌, Bool, true, false, List, [], sym, ap, ◌∙◌, arith, if◌then◌else◌}
+use Rattle.std.proofs.Common.{ℕ, ◌+◌, true, List, [], sym, ap, ◌∙◌, arith}
 use Rattle.pf_eval.proofs.Answering.{if_false, if_true, main_tests, main_walk, packet_answer}
 use Rattle.pf_eval.specs.Answers.{answer_from, is_skipped, skipped_answer, walked_from_main}
 use Rattle.pf_eval.specs.Chain.{tests_from_main}

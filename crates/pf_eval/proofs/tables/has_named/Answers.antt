@@ -1,4 +1,4 @@
-use Rattle.std.proofs.Common.{◌≡◌, List, Option, Some, None, sym, ap, ◌∙◌}
+use Rattle.std.proofs.Common.{List, Option, sym, ap, ◌∙◌}
 use Rattle.std.specs.Option.{option_copied}
 use Rattle.pf_eval.proofs.Named.{named_main, named_nowhere, named_own, named_without_main}
 use Rattle.pf_eval.specs.Rulesets.{entries_named, tables_in}

@@ -1,4 +1,4 @@
-use Rattle.std.proofs.Common.{◌≡◌, ℕ, ◌+◌, ◌-◌, ◌<◌, ◌≤◌, Bool, true, false, List, [], ◌∷◌, ◌++◌, length, get_or, drop, Option, Some, None, refl, sym, ap, ◌∙◌, subst, arith, if◌then◌else◌}
+use Rattle.std.proofs.Common.{◌≡◌, ℕ, ◌+◌, ◌-◌, List, [], ◌∷◌, ◌++◌, length, get_or, drop, Some, None, refl, sym, ap, ◌∙◌, subst, arith}
 use Rattle.std.specs.FinMap as fin
 use Rattle.std.specs.Option.{option_copied}
 use Rattle.pf_base.specs.Path.{is_reserved}
@@ -6,10 +6,7 @@ use Rattle.pf_eval.proofs.Answering.{if_false, if_true}
 use Rattle.pf_eval.proofs.Arms.{around_here, hit_tests, hit_walk, other_tests, other_walk, skip_tests, skip_walk}
 use Rattle.pf_eval.proofs.Deeds.{below_tests, below_walk, call_cost, call_walk, none_plain, nowhere_tests, nowhere_walk, plain_cost, plain_walk, target_tests, target_walk}
 use Rattle.pf_eval.proofs.Ends.{anchor_tests, anchor_walk, children_end, children_end_tests, children_less, children_start, children_step, children_step_tests, children_stop, children_stop_tests, none_left, none_left_tests, none_there, none_there_tests, rules_end, rules_end_tests, rules_stop, rules_stop_tests, ruleset_tests, ruleset_walk}
-use Rattle.pf_eval.specs.Answers.{optimised_world}
-use Rattle.pf_eval.specs.Rulesets.{named_children}
-use Rattle.pf_eval.specs.Steps.{call_at, call_tests, children_tests, children_walk, deed_at, list_tests, named_after, on_optimised, on_written, rule_tests, tests_left, walk_left}
-use Rattle.pf_eval.specs.World.{inside_anchor}
+use Rattle.pf_eval.specs.Steps.{children_tests, children_walk, deed_at, list_tests, named_after, on_optimised, rule_tests, tests_left, walk_left}
 use Rattle.pf_optim.specs.Ruleset.{form_of}
 use Rattle.pf_parts.specs.CallTarget.{target_of}
 use Rattle.pf_rule.specs.Around.{Around}
@@ -356,9 +353,10 @@ walk_ruleset-returns-in_default-clause-counted g t c =
     omega (arith, none)
 
 pub walk_ruleset-walk_rules-requires : goal.walk_ruleset-walk_rules-requires
-walk_ruleset-walk_rules-requires g t c κs within =
-    (omega (arith, c.decreases, c.if-left-eq0.false),
-    (within.0, (within.1, (sym c.in-Some.ensures.value, c.get-2.ensures.value ∙ ap (fin.get c.args.site.now.tree.now.payloads) c.main.ensures))))
+walk_ruleset-walk_rules-requires g t c κs within = (
+  omega (arith, c.decreases, c.if-left-eq0.false),
+  (within.0, (within.1, (sym c.in-Some.ensures.value, c.get-2.ensures.value ∙ ap (fin.get c.args.site.now.tree.now.payloads) c.main.ensures))),
+)
 
 pub walk_ruleset-returns-clause-walk : goal.walk_ruleset-returns-clause-walk
 walk_ruleset-returns-clause-walk g t c =

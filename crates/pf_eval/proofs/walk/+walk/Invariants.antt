@@ -1,4 +1,4 @@
-use Rattle.std.proofs.Common.{◌≡◌, ℕ, ◌+◌, ◌-◌, ◌*◌, drop, length}
+use Rattle.std.proofs.Common.{◌≡◌, ◌+◌, ◌-◌, ◌*◌, drop, length}
 use Rattle.pf_eval.specs.Rulesets.{named_children}
 use Rattle.pf_eval.specs.Steps.{children_tests, children_walk, list_tests, named_after, names_after, on_optimised}
 use Rattle.pf_optim.specs.Ruleset.{form_of}
