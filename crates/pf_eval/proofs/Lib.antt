@@ -1,0 +1,15 @@
+pub mod Lists
+pub mod Standing
+pub mod Bounds
+pub mod Skipping
+pub mod Behind
+pub mod Entries
+pub mod Arms
+pub mod Ends
+pub mod Named
+pub mod Answering
+pub mod Deeds
+pub mod Fewer
+pub mod Gathered
+pub mod Telling
+mod Examples

@@ -1,0 +1,60 @@
+//! Laws of walks through trees.
+ghost use Rattle.std.specs.Prelude.{◌≡◌, ℕ, List, Some};
+ghost use Rattle.std.specs.FinMap as fin;
+ghost use Rattle.pf_calls.specs.Graph.{IsShallow};
+ghost use Rattle.pf_eval.specs.Answers.{optimised_world, written_world};
+ghost use Rattle.pf_eval.specs.Rulesets.{AreSound, Rulesets, graph_in};
+ghost use Rattle.pf_eval.specs.Steps.{on_optimised, on_written};
+ghost use Rattle.pf_eval.specs.World.{ActsOnce, IsWalk, StandForEachOther, Walker, World, walk_at, walk_within};
+ghost use Rattle.pf_host.specs.Facts.{HostFacts};
+ghost use Rattle.pf_optim.specs.Ruleset.{IsSound, form_of};
+ghost use Rattle.pf_optim.specs.declared.node.Node.{Node as AnyNode};
+ghost use Rattle.pf_rule.specs.Walking.{walked_through};
+ghost use Rattle.pf_rule.specs.declared.walk.Walk.{Walk as PacketWalk};
+
+use pf_optim::{Ruleset, optimised_rules_name_their_tables, optimised_rules_walk_alike};
+use pf_rule::{Rule, Walk, effect_twice_is_once, laws_of_walks};
+
+/// A law: where calls go in no circle and no more than 64 rulesets call one another in a chain, the walk with a bound is the
+/// walk without one, and there is no other (pf.conf(5), ANCHORS). The walks may be of any kind `W`.
+pub fn walks_need_no_bound<W>()
+    ensures walk { (by : Walker W) (trees : Rulesets) (facts : HostFacts) → IsShallow (graph_in trees) 64 →
+        IsWalk by (written_world trees facts) (walk_at by (written_world trees facts)) }
+    ensures only { (by : Walker W) (trees : Rulesets) (facts : HostFacts) (other : List (List ℕ) → W → W) →
+        IsShallow (graph_in trees) 64 → IsWalk by (written_world trees facts) other →
+        (at : List (List ℕ)) (walk : W) → other at walk ≡ walk_at by (written_world trees facts) at walk }
+{
+    laws_of_walks::<W, Rule>();
+}
+
+/// A law: the optimised rules of each ruleset of a tree stand for its written rules wherever the ruleset is walked, whatever
+/// the rulesets do that it calls; and so the walk through the whole tree is the same by the one as by the other. What rules
+/// do to the walks, of any kind `W`, that are no anchors, done twice is done once.
+pub fn optimised_rulesets_stand_for_written_ones<W>()
+    ensures stand { (by : Walker W) (trees : Rulesets) (facts : HostFacts) → ActsOnce by → AreSound trees →
+        StandForEachOther by (optimised_world trees facts) (written_world trees facts) }
+    ensures walk { (by : Walker W) (one other : World) (bound : ℕ) (at : List (List ℕ)) (walk : W) →
+        StandForEachOther by one other → walk_within by one bound at walk ≡ walk_within by other bound at walk }
+{
+    optimised_rules_walk_alike::<W>();
+    optimised_rules_name_their_tables();
+}
+
+// The same of a packet's walk through one ruleset.
+pub(crate) fn optimised_walk_is_written()
+    ensures { (trees : Rulesets) (facts : HostFacts) (left : ℕ) (at : List (List ℕ)) (node : AnyNode) (walk : PacketWalk) →
+        fin.get trees at ≡ Some node → IsSound node.rules →
+        walked_through (on_optimised trees facts left at) (form_of node.rules).rules walk
+        ≡ walked_through (on_written trees facts left at) node.rules.rules walk }
+{
+    optimised_rules_walk_alike::<Walk>();
+    optimised_rules_name_their_tables();
+    effect_twice_is_once();
+}
+
+// What a ruleset keeps of its rules.
+pub(crate) fn ruleset_is_sound(rules: &Ruleset)
+    ensures { IsSound rules.now }
+{
+    let _written = rules.written();
+}
