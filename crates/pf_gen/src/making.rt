@@ -49,7 +49,7 @@ fn packets_of(alloc: Global, number: &mut u32, many: usize) -> Result<List<Text>
 }
 
 /// The configuration and the records of a number from 1 to 1,000 (any number serves); the same at each call.
-/// NoMemory where none is left.
+/// Only want of memory is another answer.
 pub fn generated(alloc: Global, number: u32) -> Result<Generated, NoMemory>
     ensures config { IfOk result (λ r. r.config ≡ config_of number) }
     ensures records { IfOk result (λ r. r.records ≡ records_of number) }
