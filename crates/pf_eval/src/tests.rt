@@ -241,11 +241,23 @@ fn anchors_in_trees(rt: HostRuntime) -> Result<(), Fail> {
     answers(&rt, alloc, "/ a! block; a pass=seen", "pass", "seen")?;
     answers(&rt, alloc, "/ a pass; a block!", "block", "")?;
     answers(&rt, alloc, "/ a! pass; a match!=seen", "pass", "seen")?;
-    answers(&rt, alloc, "/ x/*; x/b pass=b; x/a block=a; x/a/c pass!=c; x _1; x/_1 pass!=anon", "pass", "b")?;
+    answers(
+        &rt,
+        alloc,
+        "/ x/*; x/b pass=b; x/a block=a; x/a/c pass!=c; x _1; x/_1 pass!=anon",
+        "pass",
+        "b",
+    )?;
     answers(&rt, alloc, "/ block x; x ../y; y pass=y", "pass", "y")?;
     answers(&rt, alloc, "/ block x; x ../../y; y pass=y", "block", "")?;
     answers(&rt, alloc, "/ a! block; a /b; b c; b/c pass=c", "pass", "c")?;
-    answers(&rt, alloc, "/ a pass!=out; a b! block=a; a/b match=b", "pass", "out")?;
+    answers(
+        &rt,
+        alloc,
+        "/ a pass!=out; a b! block=a; a/b match=b",
+        "pass",
+        "out",
+    )?;
     answers(&rt, alloc, "/ *; a block!=a; b pass=b", "block", "a")?;
     Ok(())
 }
