@@ -17,3 +17,6 @@ pub use laws::{optimised_rulesets_stand_for_written_ones, walks_need_no_bound};
 pub use pf_calls::{CallFault, CallRow, call_fault};
 pub use pf_optim::Node;
 pub use rows::{call_row, call_rows, fewer_calls_stay_shallow, rows_tell_calls};
+
+#[cfg(test)]
+mod tests;
