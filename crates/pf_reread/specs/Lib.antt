@@ -1,0 +1,4 @@
+pub mod TokenText
+pub mod Written
+pub mod ReadBack
+pub mod SetBack
