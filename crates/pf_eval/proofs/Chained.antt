@@ -1,5 +1,5 @@
 -- Where calls go in no circle and not too deep, the bound of the tests isn't seen.
-use Rattle.std.proofs.Common.{◌≡◌, ℕ, zero, suc, ◌+◌, ◌<◌, ◌≤◌, cond, Bool, true, false, not, ◌||◌, List, [], ◌∷◌, ◌++◌, length, Option, Some, None, refl, sym, ap, ◌∙◌, inl, inr, arith, if◌then◌else◌}
+use Rattle.std.proofs.Common.{◌≡◌, ℕ, zero, suc, ◌+◌, ◌≤◌, cond, Bool, true, false, not, ◌||◌, List, [], ◌∷◌, ◌++◌, length, Option, Some, None, refl, sym, ap, ◌∙◌, inl, inr, arith, if◌then◌else◌}
 use Rattle.std.specs.Prelude.{Contains}
 use Rattle.std.proofs.lemmas.Bool.{false≢true}
 use Rattle.std.proofs.lemmas.Map.Made.{is_member-Decides}
@@ -9,9 +9,9 @@ use Rattle.std.specs.Set.{is_member}
 use Rattle.pf_base.specs.declared.kind.Level.{Level}
 use Rattle.pf_calls.specs.CallLaws.{paths_decide}
 use Rattle.pf_calls.specs.Calls.{called as called_paths, led_to, path_eq}
-use Rattle.pf_calls.specs.Graph.{Graph, IsRanking, IsShallow}
-use Rattle.pf_calls.specs.GraphLaws.{in_cons, in_or_out, later_in, none_in, now_in, pass_all, pass_each}
-use Rattle.pf_eval.proofs.Bounds.{ListLaws, acted_same, bound_walks, child_led_to, falls, has_path, not_zero, walk_is_within, within_enough}
+use Rattle.pf_calls.specs.Graph.{IsRanking, IsShallow}
+use Rattle.pf_calls.specs.GraphLaws.{in_or_out, later_in, none_in, now_in, pass_all, pass_each}
+use Rattle.pf_eval.proofs.Bounds.{ListLaws, acted_same, child_led_to, falls, has_path, not_zero, walk_is_within, within_enough}
 use Rattle.pf_eval.proofs.Lists.{gives, in_flat}
 use Rattle.pf_eval.specs.Answers.{optimised_world, written_world}
 use Rattle.pf_eval.specs.Chain.{IsChain, passed_over, tests_acted, tests_at, tests_below, tests_called, tests_in, tests_within}
@@ -19,7 +19,6 @@ use Rattle.pf_eval.specs.Rulesets.{AreSound, Rulesets, call_of, calls_in, graph_
 use Rattle.pf_eval.specs.World.{IsWalk, Walker, World, acted, has_stopped, walk_at, walk_within, walking_at}
 use Rattle.pf_host.specs.Facts.{HostFacts}
 use Rattle.pf_optim.specs.Optimised.{optimised}
-use Rattle.pf_optim.specs.Ruleset.{IsSound}
 use Rattle.pf_optim.specs.declared.node.Node.{Node}
 use Rattle.pf_parts.specs.CallTarget.{target_of}
 use Rattle.pf_parts.specs.declared.call.Call.{Call}

@@ -36,7 +36,7 @@ pub skip_place : (rules : List Rule) (place field : ℕ) (rule : Rule) → slice
 unfolding skip
 skip_place rules place field rule here =
     let value : slice_get (values_at field rules) place ≡ Some (value_at field rule) =
-        slice_get-map (value_at field) rules place ∙ ap (option_map (value_at field)) here in
+    slice_get-map (value_at field) rules place ∙ ap (option_map (value_at field)) here in
     ap (λ (v : Option (Option FieldValue)). place + 1 + run_of v field (drop (place + 1) rules)) value
 
 same_is : (one other : Option FieldValue) → same_value (Some one) (Some other) ≡ true → one ≡ other
