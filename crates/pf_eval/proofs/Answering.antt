@@ -1,7 +1,7 @@
 -- From the walk of the main ruleset to the answer.
 use Rattle.std.proofs.Common.{◌≡◌, ℕ, Bool, true, false, List, [], refl, sym, ap, if◌then◌else◌}
 use Rattle.pf_eval.specs.Answers.{answer_from, answer_of, walked_from_main}
-use Rattle.pf_eval.specs.Chain.{tests_from_main}
+use Rattle.pf_eval.specs.Chain.{tests_at, tests_from_main}
 use Rattle.pf_eval.specs.Rulesets.{Rulesets}
 use Rattle.pf_eval.specs.Steps.{tests_left, walk_left}
 use Rattle.pf_eval.specs.World.{walk_at}
@@ -21,7 +21,7 @@ unfolding walk_at
 main_walk trees facts walk = refl
 
 pub main_tests : (trees : Rulesets) (facts : HostFacts) (walk : Walk) → tests_left trees facts 64 [] walk ≡ tests_from_main trees facts walk
-unfolding tests_from_main
+unfolding tests_at
 main_tests trees facts walk = refl
 
 pub packet_answer : (trees : Rulesets) (facts : HostFacts) (skip : List (List ℕ)) (packet : Packet) → answer_from trees facts skip (opening_walk packet) ≡ answer_of trees facts skip packet

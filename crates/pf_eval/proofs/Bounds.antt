@@ -172,10 +172,10 @@ module _ {W : Type 0} (laws : ListLaws W) (by : Walker W) (trees : Rulesets) (fa
   within_outside (suc n) at out walk = nothing_walked at out (walking_at by world (walk_within by world n) at) walk
 
   module _ (rank : List (List ℕ) → ℕ) (ranking : IsRanking graph rank) where
-    falls : (at path : List (List ℕ)) → graph.has at ≡ true → Contains (graph.steps at) path → rank path < rank at
+    pub falls : (at path : List (List ℕ)) → graph.has at ≡ true → Contains (graph.steps at) path → rank path < rank at
     falls at path inside leads = rank_falls graph rank ranking at path (record { inside = inside; leads = leads })
 
-    not_zero : (at : List (List ℕ)) → graph.has at ≡ true → rank at ≤ 0 → ⊥
+    pub not_zero : (at : List (List ℕ)) → graph.has at ≡ true → rank at ≤ 0 → ⊥
     not_zero at inside low = let is = rank_inside graph rank ranking at inside in omega arith
 
     -- any two bounds that are large enough

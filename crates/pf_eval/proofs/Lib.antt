@@ -2,6 +2,7 @@ pub mod Lists
 pub mod Standing
 pub mod Bounds
 pub mod Skipping
+pub mod Chained
 pub mod Behind
 pub mod Entries
 pub mod Arms

@@ -31,6 +31,14 @@ behind_skip rules place field rule h is =
     ap (λ (v : Option (Option FieldValue)). drop (place + 1 + run_of v field (drop (place + 1) rules)) rules) value
     ∙ drop_plus (place + 1) (run_of (Some (value_at field rule)) field (drop (place + 1) rules)) rules
 
+-- the place to which a skip leads is behind what is passed over
+pub skip_place : (rules : List Rule) (place field : ℕ) (rule : Rule) → slice_get rules place ≡ Some rule → skip rules place field ≡ place + 1 + passed_over (Field field) rule (drop (place + 1) rules)
+unfolding skip
+skip_place rules place field rule here =
+    let value : slice_get (values_at field rules) place ≡ Some (value_at field rule) =
+    slice_get-map (value_at field) rules place ∙ ap (option_map (value_at field)) here in
+    ap (λ (v : Option (Option FieldValue)). place + 1 + run_of v field (drop (place + 1) rules)) value
+
 same_is : (one other : Option FieldValue) → same_value (Some one) (Some other) ≡ true → one ≡ other
 same_is one other = ((options skip_values).decides one other).0
 

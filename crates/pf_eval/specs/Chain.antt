@@ -1,6 +1,6 @@
 -- How many rules are tested in a walk through the optimised rules by skip steps: a rule that fails in a field lets all be
 -- passed over that follow it and are equal in that field.
-use Rattle.std.specs.Prelude.{ℕ, zero, suc, ◌+◌, Bool, true, false, List, [], ◌∷◌, ◌++◌, Option, Some, None, if◌then◌else◌}
+use Rattle.std.specs.Prelude.{◌≡◌, ℕ, zero, suc, ◌+◌, Bool, true, false, List, [], ◌∷◌, ◌++◌, Option, Some, None, if◌then◌else◌}
 use Rattle.pf_eval.specs.Answers.{optimised_world, written_world, is_skipped}
 use Rattle.pf_eval.specs.Rulesets.{Rulesets}
 use Rattle.pf_eval.specs.World.{Walker, World, has_stopped, packet_walker, walk_within, walking_at}
@@ -63,10 +63,21 @@ module _ {W : Type 0} (by : Walker W) (world : World) where
       (λ rule walk. tests_acted by world.children (walk_within by written more) (tests_within written more) at rule.effect.action walk)
       (world.rules at) 0 walk
 
+module _ {W : Type 0} (by : Walker W) (world : World) where
+  -- The tests of the walk from each path, where the rulesets that rules call are walked like this: those of the rules there,
+  -- and those from each path that they call.
+  pub record IsChain (walk_from : List (List ℕ) → W → W) (tests_from : List (List ℕ) → W → ℕ) : Type 0 where
+    pub is : (at : List (List ℕ)) (walk : W) → tests_from at walk ≡
+        tests_in (walking_at by world walk_from at) (λ rule walk. tested_at (world.around at) rule (by.seen walk))
+        (λ rule walk. tests_acted by world.children walk_from tests_from at rule.effect.action walk) (world.rules at) 0 walk
+
+  -- the tests from a path of a tree in which at most 64 rulesets call one another in a chain
+  unfoldable pub tests_at : World → List (List ℕ) → W → ℕ
+  tests_at written = tests_within by world written 64
+
 -- the tests of a walk through the optimised rules by skip steps, from the main ruleset on
-unfoldable pub tests_from_main : Rulesets → HostFacts → Walk → ℕ
-tests_from_main trees facts walk =
-    tests_within packet_walker (optimised_world trees facts) (written_world trees facts) 64 [] walk
+abbrev pub tests_from_main : Rulesets → HostFacts → Walk → ℕ
+tests_from_main trees facts walk = tests_at packet_walker (optimised_world trees facts) (written_world trees facts) [] walk
 
 -- a packet on a skipped interface meets no test
 abbrev pub tests_of : Rulesets → HostFacts → List (List ℕ) → Walk → ℕ

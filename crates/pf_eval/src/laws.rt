@@ -1,15 +1,20 @@
 //! Laws of walks through trees.
-ghost use Rattle.std.specs.Prelude.{◌≡◌, ℕ, List, Some};
+ghost use Rattle.std.specs.Prelude.{◌≡◌, ◌+◌, ℕ, List, Some, drop};
 ghost use Rattle.std.specs.FinMap as fin;
+ghost use Rattle.std.specs.List.{slice_get};
 ghost use Rattle.pf_calls.specs.Graph.{IsShallow};
 ghost use Rattle.pf_eval.specs.Answers.{optimised_world, written_world};
+ghost use Rattle.pf_eval.specs.Chain.{IsChain, passed_over, tests_at};
 ghost use Rattle.pf_eval.specs.Rulesets.{AreSound, Rulesets, graph_in};
 ghost use Rattle.pf_eval.specs.Steps.{on_optimised, on_written};
 ghost use Rattle.pf_eval.specs.World.{ActsOnce, IsWalk, StandForEachOther, Walker, World, walk_at, walk_within};
 ghost use Rattle.pf_host.specs.Facts.{HostFacts};
 ghost use Rattle.pf_optim.specs.Ruleset.{IsSound, form_of};
+ghost use Rattle.pf_optim.specs.Skips.{skip};
 ghost use Rattle.pf_optim.specs.declared.node.Node.{Node as AnyNode};
 ghost use Rattle.pf_rule.specs.Walking.{walked_through};
+ghost use Rattle.pf_rule.specs.declared.rule.Rule.{Rule as FilterRule};
+ghost use Rattle.pf_rule.specs.declared.testing.Tested.TheVariants.{Field as FailsFirst};
 ghost use Rattle.pf_rule.specs.declared.walk.Walk.{Walk as PacketWalk};
 
 use pf_optim::{Ruleset, optimised_rules_name_their_tables, optimised_rules_walk_alike};
@@ -40,7 +45,28 @@ pub fn optimised_rulesets_stand_for_written_ones<W>()
     optimised_rules_name_their_tables();
 }
 
-// The same of a packet's walk through one ruleset.
+/// A law: where calls go in no circle and no more than 64 rulesets call one another in a chain, the tests that are counted with
+/// a bound are those without one, and there are no others: the tests of the rules at each path and of those that they call.
+pub fn tests_need_no_bound<W>()
+    ensures tests { (by : Walker W) (trees : Rulesets) (facts : HostFacts) → AreSound trees → IsShallow (graph_in trees) 64 →
+        IsChain by (optimised_world trees facts) (walk_at by (written_world trees facts)) (tests_at by (optimised_world trees facts) (written_world trees facts)) }
+    ensures only { (by : Walker W) (trees : Rulesets) (facts : HostFacts) (walk_from : List (List ℕ) → W → W) (tests_from : List (List ℕ) → W → ℕ) →
+        AreSound trees → IsShallow (graph_in trees) 64 →
+        IsWalk by (written_world trees facts) walk_from → IsChain by (optimised_world trees facts) walk_from tests_from →
+        (at : List (List ℕ)) (walk : W) → tests_from at walk ≡ tests_at by (optimised_world trees facts) (written_world trees facts) at walk }
+{
+    laws_of_walks::<W, Rule>();
+    optimised_rules_name_their_tables();
+}
+
+/// A law: behind a rule that fails in a field first, those are passed over that stand before the place to which the skip of
+/// this field leads.
+pub fn rules_up_to_a_skip_are_passed_over()
+    ensures { (rules : List FilterRule) (place field : ℕ) (rule : FilterRule) → slice_get rules place ≡ Some rule →
+        skip rules place field ≡ place + 1 + passed_over (FailsFirst field) rule (drop (place + 1) rules) }
+{}
+
+// What the optimised rules of one ruleset do to a packet's walk is what the written ones do.
 pub(crate) fn optimised_walk_is_written()
     ensures { (trees : Rulesets) (facts : HostFacts) (left : ℕ) (at : List (List ℕ)) (node : AnyNode) (walk : PacketWalk) →
         fin.get trees at ≡ Some node → IsSound node.rules →
