@@ -98,6 +98,11 @@ abbrev pub icmp_proto : Family → ℕ
 icmp_proto Inet = icmp
 icmp_proto Inet6 = icmp6
 
+-- which of two answers is that for a family
+abbrev pub by_family : Family → Bool → Bool → Bool
+by_family Inet inet inet6 = inet
+by_family Inet6 inet inet6 = inet6
+
 abbrev pub icmp_needs : List IcmpItem → List ℕ → Option FaultKind
 icmp_needs items protos = where_so (list_any (λ item. not (only_for (λ proto. proto == icmp_proto item.family) protos)) items) kinds.IcmpNeedsProto
 

@@ -171,18 +171,36 @@ fn icmp_proto(family: Family) -> u8
     }
 }
 
-// Whether a type's protocol isn't the rule's alone.
-fn lacks_proto(item: &IcmpItem, protos: &[u8]) -> bool
-    ensures { result ≡ not (says.only_for (λ proto. proto == says.icmp_proto item.now.family) protos.now) }
+// Whether the protocol of a family's types isn't the rule's alone.
+fn lacks_proto(family: Family, protos: &[u8]) -> bool
+    ensures { result ≡ not (says.only_for (λ proto. proto == says.icmp_proto family) protos.now) }
 {
-    !(!protos.is_empty() && are(protos, icmp_proto(item.family)))
+    !(!protos.is_empty() && are(protos, icmp_proto(family)))
+}
+
+fn by_family(family: Family, inet: bool, inet6: bool) -> bool
+    ensures { result ≡ says.by_family family inet inet6 }
+{
+    match family {
+        Family::Inet => inet,
+        Family::Inet6 => inet6,
+    }
+}
+
+// Whether some type is of a family whose types lack their protocol.
+fn some_lack(items: &[IcmpItem], inet: bool, inet6: bool) -> bool
+    ensures { result ≡ list_any (λ item. says.by_family item.family inet inet6) items.now }
+{
+    items.iter().any(|item| by_family(item.family, inet, inet6))
 }
 
 // Whether some type's protocol isn't the rule's alone.
 fn some_lack_proto(items: &[IcmpItem], protos: &[u8]) -> bool
     ensures { result ≡ list_any (λ item. not (says.only_for (λ proto. proto == says.icmp_proto item.family) protos.now)) items.now }
 {
-    items.iter().any(|item| lacks_proto(item, protos))
+    let inet = lacks_proto(Family::Inet, protos);
+    let inet6 = lacks_proto(Family::Inet6, protos);
+    some_lack(items, inet, inet6)
 }
 
 // An ICMP type without ICMP.

@@ -7,12 +7,13 @@
 pub mod forms;
 pub mod head;
 pub mod keyword;
-mod late;
+pub mod late;
 pub mod option;
 pub mod statement;
 mod words;
 
 pub use forms::{FormRead, parse_rule, read_draft, read_form, tokens_have_one_form};
+pub use late::late_of;
 pub use pf_form::{Draft, FlagsForm, Head, RuleForm};
 pub use pf_syntax::{FormFault, form_fault};
 pub use words::forms_have_words;

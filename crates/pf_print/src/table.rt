@@ -12,7 +12,7 @@ use pf_parts::put;
 use pf_shelf::TableFlags;
 use pf_table::Entry;
 
-fn put_entry(out: &mut Vec<u8>, entry: &Entry) -> Result<(), NoMemory>
+fn append_entry(out: &mut Vec<u8>, entry: &Entry) -> Result<(), NoMemory>
     ensures ok { OnOk result (out.new.items ≡ out.old.items ++ entry_text entry.now) }
     ensures kept { Extends out.old.items out.new.items }
 {
@@ -21,13 +21,27 @@ fn put_entry(out: &mut Vec<u8>, entry: &Entry) -> Result<(), NoMemory>
     Ok(())
 }
 
+/// Appends the text of an entry of a table, with a `!` before it where it is negated. Without memory `out` is as before
+/// (pf.conf(5), TABLES).
+pub fn put_entry(out: &mut Vec<u8>, entry: &Entry) -> Result<(), NoMemory>
+    ensures ok { OnOk result (out.new.items ≡ out.old.items ++ entry_text entry.now) }
+    ensures err { OnErr result (out.new.items ≡ out.old.items) }
+{
+    let before = out.len();
+    let appended = append_entry(out, entry);
+    if appended.is_err() {
+        out.truncate(before);
+    }
+    appended
+}
+
 // An entry behind a comma.
 fn put_next(out: &mut Vec<u8>, entry: &Entry) -> Result<(), NoMemory>
     ensures ok { OnOk result (out.new.items ≡ out.old.items ++ (codes ", " ++ entry_text entry.now)) }
     ensures kept { Extends out.old.items out.new.items }
 {
     put(out, b", ")?;
-    put_entry(out, entry)?;
+    append_entry(out, entry)?;
     Ok(())
 }
 
@@ -36,7 +50,7 @@ fn put_list(out: &mut Vec<u8>, first: &Entry, more: &[Entry]) -> Result<(), NoMe
     ensures ok { OnOk result (out.new.items ≡ out.old.items ++ join_by entry_text (codes ", ") (first.now ∷ more.now)) }
     ensures kept { Extends out.old.items out.new.items }
 {
-    put_entry(out, first)?;
+    append_entry(out, first)?;
     for entry in more {
         put_next(out, entry)?;
     }

@@ -19,7 +19,7 @@ abbrev is_read_lexeme : Lexeme → Bool
 is_read_lexeme (Token token) = is_read_token token
 is_read_lexeme (Fault fault) = true
 
-abbrev is_good_class : ByteClass → Bool
+abbrev pub is_good_class : ByteClass → Bool
 is_good_class Blank = true
 is_good_class Newline = false
 is_good_class Sign = true
@@ -48,7 +48,7 @@ other_byte byte e = elim (cases_Bool (byte == 10)) [
   | inr other ↦ rw other refl
 ]
 
-good_byte : (byte : ℕ) → is_good_class (class_of byte) ≡ true → is_string_byte byte ≡ true
+pub good_byte : (byte : ℕ) → is_good_class (class_of byte) ≡ true → is_string_byte byte ≡ true
 good_byte byte e = and_from (is_known (class_of byte)) (not (byte == 10)) (known_class (class_of byte) e) (other_byte byte e)
 
 -- the bytes of cells that all make words

@@ -18,3 +18,16 @@ mod ReadingBack
 mod SetsBack
 mod FileTokens
 mod Witness
+mod Premises
+mod Every
+mod Keeping
+mod FormWords
+mod FormParts
+mod FormDrafts
+mod AddrTexts
+mod FactsKept
+mod WordValues
+mod Combined
+mod Expanded
+mod Effects
+mod Statements

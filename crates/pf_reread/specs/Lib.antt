@@ -1,4 +1,5 @@
 pub mod TokenText
 pub mod Written
+pub mod Calls
 pub mod ReadBack
 pub mod SetBack
