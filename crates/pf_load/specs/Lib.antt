@@ -1,3 +1,6 @@
-pub mod Grammar
-pub mod Line
+pub mod Anchors
+pub mod Answers
+pub mod Fit
 pub mod Load
+pub mod Paths
+pub mod Statements

@@ -18,11 +18,11 @@ use Rattle.pf_plan.specs.Anchors.{closed, closed_in, counted, next_unit, opened,
 use Rattle.pf_plan.specs.Drafts.{begun_draft, is_empty, is_in_body, most_rules, second_use, uses_at, uses_in, with_lines, with_queue, with_rules, with_table}
 use Rattle.pf_plan.specs.Ends.{HasEndFault, end_fault, or_else, overfull, queue_fault, rulesets_of, too_many, unclosed}
 use Rattle.pf_plan.specs.Numbered.{FillingWithin, PlacesWithin}
-use Rattle.pf_plan.specs.Order.{fault_at}
+use Rattle.pf_fault.specs.Order.{fault_at}
 use Rattle.pf_plan.specs.declared.draft.Draft.{Draft}
 use Rattle.pf_plan.specs.declared.draft.Filling.{Filling}
 use Rattle.pf_plan.specs.declared.draft.Ruleset.{Ruleset}
-use Rattle.pf_plan.specs.declared.fault.Fault.{Fault}
+use Rattle.pf_fault.specs.declared.fault.Fault.{Fault}
 
 pub at_index : {A : Type 0} (P : A → Type 0) (xs : List A) (i : ℕ) (x : A) → slice_get xs i ≡ Some x → All P xs → P x
 at_index P xs i x here all = subst P (get_or_from_slice_get xs i x x here) (all i x (slice_get_within xs i x here))

@@ -10,11 +10,11 @@ use Rattle.pf_decl.specs.declared.form.OptionLine.{OptionLine}
 use Rattle.pf_decl.specs.declared.form.Setting.{Setting}
 use Rattle.pf_decl.specs.declared.form.Setting.TheVariants as settings
 use Rattle.pf_plan.specs.Drafts.{is_empty, most_rules}
-use Rattle.pf_plan.specs.Order.{fault_at}
+use Rattle.pf_fault.specs.Order.{fault_at}
 use Rattle.pf_plan.specs.declared.draft.Draft.{Draft}
 use Rattle.pf_plan.specs.declared.draft.Filling.{Filling}
 use Rattle.pf_plan.specs.declared.draft.Ruleset.{Ruleset}
-use Rattle.pf_plan.specs.declared.fault.Fault.{Fault}
+use Rattle.pf_fault.specs.declared.fault.Fault.{Fault}
 use Rattle.pf_plan.specs.declared.plan.Part.{Part}
 use Rattle.pf_plan.specs.declared.plan.Plan.{Plan}
 use Rattle.pf_plan.specs.declared.plan.Whole.{Whole}

@@ -1,11 +1,5 @@
 pub mod Anchors
 pub mod Drafts
 pub mod Ends
-pub mod FileWords
 pub mod Filled
 pub mod Numbered
-pub mod Order
-pub mod Stays
-pub mod TableFiles
-pub mod Tables
-pub mod Without

@@ -5,10 +5,10 @@ ghost use Rattle.pf_plan.specs.Ends.{HasEndFault};
 ghost use Rattle.pf_plan.specs.Numbered.{PlacesWithin};
 
 use crate::draft::{Draft, Filling, Ruleset};
-use crate::fault::Fault;
 use crate::plan::{Part, Plan, Whole};
 use pf_base::{FaultKind, Level, List, Name, NoMemory};
 use pf_decl::{OptionLine, QueueFault, Setting, check_queues};
+use pf_fault::Fault;
 use std::alloc::Global;
 
 /// The most rules of a ruleset.

@@ -1,14 +1,9 @@
-//! The order of faults, drafts with bodies and units, and tables with a file, written out by hand.
-use crate::{
-    Draft, Fault, Part, Plan, Stop, end_fault, first_of, has_words, nameless_path, plan_of,
-    read_table,
-};
+//! Drafts with bodies and units, written out by hand.
+use crate::{Draft, FilledPaths, Part, Plan, end_fault, nameless_path, plan_of};
 use pf_base::{FaultKind, Level, List, Name, Path, Place, Text};
-use pf_decl::{TableForm, TableItem};
-use pf_host::Facts;
-use pf_lexer::Reads;
+use pf_decl::Queue;
+use pf_fault::Fault;
 use pf_shelf::TableDecl;
-use pf_source::{HeldFile, MemoryFiles};
 use std::alloc::{AllocError, Global};
 use std::process::Abort;
 use std::test::Fail;
@@ -22,20 +17,6 @@ fn fault(kind: FaultKind, line: u32) -> Option<Fault> {
         kind,
         place: at(line),
     })
-}
-
-#[test]
-fn faults_in_order(rt: HostRuntime) -> Result<(), Fail> {
-    let bad = fault(FaultKind::BadByte, 2);
-    let mask = fault(FaultKind::MaskTooLong(33), 1);
-    let flags = fault(FaultKind::BadFlags, 1);
-    assert_eq!(&rt; first_of(mask, bad), bad);
-    assert_eq!(&rt; first_of(bad, mask), bad);
-    assert_eq!(&rt; first_of(flags, mask), mask);
-    assert_eq!(&rt; first_of(mask, fault(FaultKind::MaskTooLong(34), 2)), mask);
-    assert_eq!(&rt; first_of(None, flags), flags);
-    assert_eq!(&rt; first_of(flags, None), flags);
-    Ok(())
 }
 
 fn begun(rt: &impl Abort, alloc: Global, path: &[u8]) -> Draft {
@@ -134,96 +115,45 @@ fn statements_without_rules(rt: HostRuntime) -> Result<(), Fail> {
     Ok(())
 }
 
-// The declaration of a table with 10.0.0.0/8 in braces and the file `t`.
-fn form_of(rt: &impl Abort, alloc: Global) -> Result<TableForm, Fail> {
-    let mut items = List::new(alloc);
-    items.push(TableItem {
-        negated: false,
-        word: text_of(alloc, b"10.0.0.0")?,
-        mask: Some(text_of(alloc, b"8")?),
-    })?;
-    let mut files = List::new(alloc);
-    files.push(text_of(alloc, b"t")?)?;
-    Ok(TableForm {
-        name: Name::new(b"t").expect(rt, "a name"),
-        persist: false,
-        constant: false,
-        counters: false,
-        items: Some(items),
-        files,
-    })
+fn name_of(rt: &impl Abort, text: &[u8]) -> Name {
+    Name::new(text).expect(rt, "a name")
 }
 
-fn held(alloc: Global, name: &[u8], bytes: &[u8]) -> Result<HeldFile, AllocError> {
-    Ok(HeldFile {
-        name: text_of(alloc, name)?,
-        bytes: text_of(alloc, bytes)?,
-    })
-}
-
-// What it comes to where the file has this text; the declaration stands in the load's first file.
-#[tactic(auto, using(std::proofs::lemmas::Option::slice_get_within))]
-fn declared(rt: &impl Abort, alloc: Global, text: &[u8]) -> Result<Result<TableDecl, Stop>, Fail> {
-    let mut content = Vec::new(alloc);
-    content.push(held(alloc, b"pf.conf", b"")?)?;
-    content.push(held(alloc, b"t", text)?)?;
-    let mut files = MemoryFiles::new(alloc, content, Vec::new(alloc));
-    let mut reads = Reads::new(alloc, 16_777_216);
-    let form = form_of(rt, alloc)?;
-    assert!(rt; has_words(&form));
-    match reads.read(alloc, &mut files, &text_of(alloc, b"pf.conf")?) {
-        Ok(unit) => {
-            let place = Place {
-                file: unit.number,
-                line: 1,
-            };
-            let facts = Facts::none(alloc);
-            Ok(read_table(alloc, &mut files, &mut reads, &facts, &[], form, place))
-        }
-        Err(_) => Ok(Err(Stop::NoMemory)),
-    }
-}
-
-fn place_of(stop: &Stop) -> Option<(FaultKind, u64, u32)> {
-    match stop {
-        Stop::Fault(found) => Some((found.kind, found.place.file, found.place.line)),
-        Stop::Unread(_) | Stop::NoMemory => None,
-    }
-}
-
-fn fault_in(answer: &Result<TableDecl, Stop>) -> Option<(FaultKind, u64, u32)> {
-    match answer {
-        Ok(_) => None,
-        Err(stop) => place_of(stop),
-    }
-}
-
-fn entries_in(answer: &Result<TableDecl, Stop>) -> Option<usize> {
-    match answer {
-        Ok(table) => Some(table.entries.items().len()),
-        Err(_) => None,
+fn queue_of(rt: &impl Abort, parent: Option<Name>) -> Queue {
+    Queue {
+        name: name_of(rt, b"q"),
+        iface: None,
+        parent,
+        bandwidth: None,
+        min: None,
+        max: None,
+        default_queue: false,
+        qlimit: None,
+        place: at(4),
     }
 }
 
 #[test]
-fn faults_of_a_file(rt: HostRuntime) -> Result<(), Fail> {
+fn tables_and_queues(rt: HostRuntime) -> Result<(), Fail> {
     let alloc = rt.alloc();
-    let cases: [(&[u8], FaultKind, u32); 3] = [
-        (b"#\n !10/8", FaultKind::TableConflict, 2),
-        (b"10/33\n\x01", FaultKind::BadByte, 2),
-        (b"10/33", FaultKind::MaskTooLong(33), 1),
-    ];
-    for (text, kind, line) in &cases {
-        let answer = declared(&rt, alloc, text)?;
-        assert_eq!(&rt; fault_in(&answer), Some((*kind, 1, *line)));
-    }
+    let draft = begun(&rt, alloc, b"/").with_table(TableDecl {
+        name: name_of(&rt, b"t"),
+        persist: true,
+        constant: false,
+        counters: false,
+        filled: false,
+        entries: List::new(alloc),
+    })?;
+    assert_eq!(&rt; draft.here.own.tables.items().len(), 1);
+    let draft = draft.with_queue(queue_of(&rt, Some(name_of(&rt, b"p"))))?;
+    assert_eq!(&rt; end_fault(&draft), fault(FaultKind::QueueParent, 4));
     Ok(())
 }
 
 #[test]
-fn entries_of_a_file(rt: HostRuntime) -> Result<(), Fail> {
-    let text = b"192.0.2.1\t!10.1.0.0/16 # 10.2.0.0/16\n10/8";
-    let answer = declared(&rt, rt.alloc(), text)?;
-    assert_eq!(&rt; entries_in(&answer), Some(3));
+fn filled_paths(rt: HostRuntime) -> Result<(), Fail> {
+    let filled = FilledPaths::new(rt.alloc()).with(path_of(&rt, b"a/b"))?;
+    assert!(&rt; filled.has(&path_of(&rt, b"a/b")));
+    assert!(&rt; !filled.has(&path_of(&rt, b"a")));
     Ok(())
 }

@@ -1,9 +1,7 @@
-pub mod Commands
-pub mod Definitions
+pub mod Counting
 pub mod Feeding
 pub mod Inputs
-pub mod Lines
-pub mod Loads
 pub mod Programs
 pub mod Sessions
-pub mod Steps
+pub mod Summaries
+pub mod Tasks

@@ -1,24 +1,11 @@
--- The input: its lines, and what was read of it.
-use Rattle.std.specs.Prelude.{◌≡◌, ℕ, ◌+◌, ◌-◌, ◌^◌, ◌<◌, ◌≤◌, min, Bool, false, not, ◌==◌, List, [], ◌∷◌, ◌++◌, length, take, map, codes}
-use Rattle.std.specs.List.{filter}
+-- What was read of the input.
+use Rattle.std.specs.Prelude.{◌≡◌, ℕ, ◌+◌, ◌-◌, ◌^◌, ◌<◌, ◌≤◌, min, List, [], ◌∷◌, ◌++◌, length, take}
 use Rattle.std.specs.Io.KnownBytes.{Consumes, IsAtEnd}
 use Rattle.pf_base.specs.Text.{line_of_rest, unfinished, whole_lines}
 use Rattle.pf_source.specs.Causes.{Rose}
 use Rattle.pf_source.specs.Streams.{gave_piece}
 use Rattle.pf_source.specs.Told.{SourceTold}
 use Rattle.pf_source.specs.declared.source.LastRead.{LastRead}
-
-abbrev pub test_line : List ℕ → List ℕ
-test_line record_text = codes "test " ++ record_text
-
--- an empty line, and one that begins with `#`, says nothing
-abbrev pub says_something : List ℕ → Bool
-says_something [] = false
-says_something (byte ∷ bytes) = not (byte == 35)
-
--- each line of the input that says something is the record of a `test` line
-abbrev pub test_lines : List (List ℕ) → List (List ℕ)
-test_lines lines = map test_line (filter says_something lines)
 
 -- the input may have this many bytes
 abbrev pub most_input : ℕ

@@ -1,8 +1,5 @@
-pub mod Command
 pub mod Doing
+pub mod Generating
 pub mod Input
-pub mod Kinds
-pub mod Machine
+pub mod Lines
 pub mod Program
-pub mod Replies
-pub mod Step

@@ -1,66 +1,23 @@
--- The program: its words, the lines that it executes, and what each of its ends means.
-use Rattle.std.specs.Prelude.{◌≡◌, ℕ, Bool, true, false, not, ◌&&◌, List, [], ◌∷◌, ◌++◌, take, Option, Some, None, codes, nat_le, if◌then◌else◌}
-use Rattle.std.specs.List.{list_all}
-use Rattle.std.specs.Str.{bytes_eq}
+-- The program: what its words say, the lines that it executes, and what each of its ends means.
+use Rattle.std.specs.Prelude.{◌≡◌, ℕ, Bool, true, false, List, [], ◌++◌, take, Option, Some, None}
+use Rattle.std.specs.Io.KnownBytes.{Appends, Keeps}
 use Rattle.std.specs.declared.io.ErrorKind.{ErrorKind}
 use Rattle.std.specs.declared.io.ErrorKind.TheVariants as error
-use Rattle.pf_base.specs.Text.{is_nothing, whole_lines, lines_of}
-use Rattle.pf_source.specs.Causes.{Rose}
+use Rattle.pf_base.specs.Text.{whole_lines, lines_of}
+use Rattle.pf_source.specs.Causes.{CountsOn, Rose}
 use Rattle.pf_source.specs.Disk.{Disk}
+use Rattle.pf_source.specs.Streams.{WritesFront}
 use Rattle.pf_source.specs.Told.{FilesTold, SourceTold, SinkTold}
-use Rattle.pf_runs.specs.Runs.{World, Executes, Stops, Cause, Write_failed, Out_of_memory}
+use Rattle.pf_runs.specs.Runs.{World, Executes, Stops, Cause, Write_failed, Out_of_memory, pieces_of, reply_text}
+use Rattle.pf_engine.specs.Step.{step}
+use Rattle.pf_state.specs.Machine.{empty_machine}
+use Rattle.pf_state.specs.declared.machine.Machine.{Machine}
+use Rattle.pf_words.specs.Said.{Task, loads, runs_script, generates}
 use Rattle.pfctl.specs.declared.program.Status.{Status}
 use Rattle.pfctl.specs.declared.program.Status.TheVariants as status
-use Rattle.pfctl.specs.Command.{begins_with_dash}
-use Rattle.pfctl.specs.Input.{InputPastLimit, InputToFault, InputToPiece, StoppedInput, WholeInput, last_line, lines_ending_in, most_input, test_lines}
-use Rattle.pfctl.specs.Machine.{Machine, empty_machine}
-use Rattle.pfctl.specs.Step.{step}
-
--- a visible byte: 33 to 126
-abbrev pub is_visible : ℕ → Bool
-is_visible byte = nat_le 33 byte && nat_le byte 126
-
--- one or more visible bytes
-abbrev pub is_word : List ℕ → Bool
-is_word word = not (is_nothing word) && list_all is_visible word
-
--- a word that doesn't begin with `-`
-abbrev pub is_file_word : List ℕ → Bool
-is_file_word word = is_word word && not (begins_with_dash word)
-
--- `-f FILE`
-abbrev pub names_file : List ℕ → List ℕ → Bool
-names_file flag word = bytes_eq flag (codes "-f") && is_file_word word
-
--- `-D WORD`
-abbrev pub gives_define : List ℕ → List ℕ → Bool
-gives_define flag word = bytes_eq flag (codes "-D") && is_word word
-
--- What the words of the program say: the file, and the word of a definition where one is given
-pub record ProgramWords : Type 0 where
-  pub define : Option (List ℕ)
-  pub file : List ℕ
-
-abbrev pub words_with : Option (List ℕ) → List ℕ → ProgramWords
-words_with define file = record { define = define; file = file }
-
--- The words of the program are `-f FILE` and at most one `-D WORD`, in either order; None where they aren't
-abbrev pub words_read : List (List ℕ) → Option ProgramWords
-words_read (flag ∷ word ∷ []) = if names_file flag word then Some (words_with None word) else None
-words_read (first ∷ word ∷ second ∷ other ∷ []) =
-    if names_file first word && gives_define second other then Some (words_with (Some other) word)
-    else if gives_define first word && names_file second other then Some (words_with (Some word) other)
-    else None
-words_read words = None
-
--- the line `load FILE`, or `load -D WORD FILE`
-abbrev pub load_line : Option (List ℕ) → List ℕ → List ℕ
-load_line None file = codes "load " ++ file
-load_line (Some word) file = codes "load -D " ++ word ++ codes " " ++ file
-
--- what the program executes: the load, and then the tests
-abbrev pub program_lines : ProgramWords → List (List ℕ) → List (List ℕ)
-program_lines words lines = load_line words.define words.file ∷ test_lines lines
+use Rattle.pfctl.specs.Generating.{Generates}
+use Rattle.pfctl.specs.Input.{InputPastLimit, InputToFault, InputToPiece, StoppedInput, WholeInput, last_line, lines_ending_in, most_input}
+use Rattle.pfctl.specs.Lines.{Reading, load_and_test, program_lines, said_lines, script}
 
 -- What the objects of the outside tell at one moment
 pub record Outside : Type 0 where
@@ -92,62 +49,124 @@ pub record Stopped (disk : Disk) (cause : Cause) (lines next : List (List ℕ)) 
   pub stops : Stops step disk cause next mid (closing machine any_refused after)
 
 -- The input was read to its end, within its limit, and every line of it was executed.
-pub record Finished (words : ProgramWords) (disk : Disk) (any_refused : Bool) (before after : Outside) : Type 0 where
+pub record Finished (reading : Reading) (disk : Disk) (any_refused : Bool) (before after : Outside) : Type 0 where
   pub input : WholeInput before.source after.source
-  pub ran : Ran disk (program_lines words (lines_of input.read.front)) any_refused before after
+  pub ran : Ran disk (program_lines reading (lines_of input.read.front)) any_refused before after
 
 -- A read failed, and is the last one: the whole lines read before it were executed.
-pub record ReadFailed (words : ProgramWords) (disk : Disk) (before after : Outside) : Type 0 where
+pub record ReadFailed (reading : Reading) (disk : Disk) (before after : Outside) : Type 0 where
   pub input : InputToFault before.source after.source
   pub any_refused : Bool
-  pub ran : Ran disk (program_lines words (whole_lines input.read.front)) any_refused before after
+  pub ran : Ran disk (program_lines reading (whole_lines input.read.front)) any_refused before after
 
 -- More was read than the limit, in the last read: the lines that end within the limit were executed.
-pub record ReadTooMuch (words : ProgramWords) (disk : Disk) (before after : Outside) : Type 0 where
+pub record ReadTooMuch (reading : Reading) (disk : Disk) (before after : Outside) : Type 0 where
   pub input : InputPastLimit before.source after.source
   pub any_refused : Bool
-  pub ran : Ran disk (program_lines words (whole_lines (take most_input (input.read.front ++ input.read.piece)))) any_refused before after
+  pub ran : Ran disk (program_lines reading (whole_lines (take most_input (input.read.front ++ input.read.piece)))) any_refused before after
 
--- The run stopped at its load, before the input was read.
-pub record BrokeAtLoad (words : ProgramWords) (disk : Disk) (cause : Cause) (before after : Outside) : Type 0 where
+-- The run stopped at its first lines, before the input was read.
+pub record BrokeAtFirst (reading : Reading) (disk : Disk) (cause : Cause) (before after : Outside) : Type 0 where
   pub unread : after.source ≡ before.source
-  pub stopped : Stopped disk cause [] (load_line words.define words.file ∷ []) before after
+  pub stopped : Stopped disk cause [] reading.first before after
 
 -- The run stopped at a line that ends in the piece read last: all lines that were whole before that piece were executed.
-pub record BrokeInPiece (words : ProgramWords) (disk : Disk) (cause : Cause) (before after : Outside) : Type 0 where
+pub record BrokeInPiece (reading : Reading) (disk : Disk) (cause : Cause) (before after : Outside) : Type 0 where
   pub input : InputToPiece before.source after.source
-  pub stopped : Stopped disk cause (program_lines words (whole_lines input.front)) (test_lines (lines_ending_in input.front input.piece)) before after
+  pub stopped : Stopped disk cause (program_lines reading (whole_lines input.front)) (said_lines reading.lead (lines_ending_in input.front input.piece)) before after
 
 -- The run stopped at the last line, which has no newline, when the whole input was read: all lines before it were executed.
-pub record BrokeAtLastLine (words : ProgramWords) (disk : Disk) (cause : Cause) (before after : Outside) : Type 0 where
+pub record BrokeAtLastLine (reading : Reading) (disk : Disk) (cause : Cause) (before after : Outside) : Type 0 where
   pub input : WholeInput before.source after.source
-  pub stopped : Stopped disk cause (program_lines words (whole_lines input.read.front)) (test_lines (last_line input.read.front)) before after
+  pub stopped : Stopped disk cause (program_lines reading (whole_lines input.read.front)) (said_lines reading.lead (last_line input.read.front)) before after
 
 -- The run stopped before its end, at a failed write or for want of memory, and nothing more was read.
-pub data Broke (words : ProgramWords) (disk : Disk) (cause : Cause) (before after : Outside) : Type 0 where
-  at_load : BrokeAtLoad words disk cause before after → Broke words disk cause before after
-  in_piece : BrokeInPiece words disk cause before after → Broke words disk cause before after
-  at_last_line : BrokeAtLastLine words disk cause before after → Broke words disk cause before after
+pub data Broke (reading : Reading) (disk : Disk) (cause : Cause) (before after : Outside) : Type 0 where
+  at_first : BrokeAtFirst reading disk cause before after → Broke reading disk cause before after
+  in_piece : BrokeInPiece reading disk cause before after → Broke reading disk cause before after
+  at_last_line : BrokeAtLastLine reading disk cause before after → Broke reading disk cause before after
 
--- what each status means
-abbrev pub Means : ProgramWords → Disk → Outside → Outside → Status → Type 0
-Means words disk before after status.Done = Finished words disk false before after
-Means words disk before after status.Refused = Finished words disk true before after
-Means words disk before after status.Words = ⊥
-Means words disk before after status.ReadFault = ReadFailed words disk before after
-Means words disk before after status.WriteFault = Broke words disk Write_failed before after
-Means words disk before after status.NoMemory = Broke words disk Out_of_memory before after
-Means words disk before after status.TooMuchInput = ReadTooMuch words disk before after
+-- what each status means where the input is read
+abbrev pub MeansRead : Reading → Disk → Outside → Outside → Status → Type 0
+MeansRead reading disk before after status.Done = Finished reading disk false before after
+MeansRead reading disk before after status.Refused = Finished reading disk true before after
+MeansRead reading disk before after status.Words = ⊥
+MeansRead reading disk before after status.ReadFault = ReadFailed reading disk before after
+MeansRead reading disk before after status.WriteFault = Broke reading disk Write_failed before after
+MeansRead reading disk before after status.NoMemory = Broke reading disk Out_of_memory before after
+MeansRead reading disk before after status.TooMuchInput = ReadTooMuch reading disk before after
 
--- why a status comes, whatever the files tell
-abbrev pub HasCause : Outside → Outside → Status → Type 0
-HasCause before after status.Done = WholeInput before.source after.source
-HasCause before after status.Refused = WholeInput before.source after.source
-HasCause before after status.Words = after ≡ before
-HasCause before after status.ReadFault = InputToFault before.source after.source
-HasCause before after status.WriteFault = Rose before.sink.faults after.sink.faults × StoppedInput before.source after.source
-HasCause before after status.NoMemory = StoppedInput before.source after.source
-HasCause before after status.TooMuchInput = InputPastLimit before.source after.source
+-- No file was read, and nothing of the input.
+pub record ReadsNothing (before after : Outside) : Type 0 where
+  pub files : after.files ≡ before.files
+  pub source : after.source ≡ before.source
+
+-- What the generated run comes to was written whole, in one write.
+pub record Summarised (number : ℕ) (refused : Bool) (before after : Outside) : Type 0 where
+  pub unread : ReadsNothing before after
+  pub reply : List (List ℕ)
+  pub generates : Generates number reply refused
+  pub written : Appends before.sink.written after.sink.written (reply_text reply)
+  pub writes : CountsOn (pieces_of reply) before.sink.calls after.sink.calls
+
+-- A front of it was written: this write failed, and is the last one.
+pub record CutsSummary (number : ℕ) (before after : Outside) : Type 0 where
+  pub unread : ReadsNothing before after
+  pub reply : List (List ℕ)
+  pub refused : Bool
+  pub generates : Generates number reply refused
+  pub written : WritesFront before.sink.written after.sink.written (reply_text reply)
+  pub writes : CountsOn 1 before.sink.calls after.sink.calls
+
+-- Nothing was written of it.
+pub record SummarisesNothing (before after : Outside) : Type 0 where
+  pub unread : ReadsNothing before after
+  pub written : Keeps before.sink.written after.sink.written
+
+-- -g: what each status means
+abbrev pub MeansGenerated : ℕ → Outside → Outside → Status → Type 0
+MeansGenerated number before after status.Done = Summarised number false before after
+MeansGenerated number before after status.Refused = Summarised number true before after
+MeansGenerated number before after status.Words = ⊥
+MeansGenerated number before after status.ReadFault = ⊥
+MeansGenerated number before after status.WriteFault = CutsSummary number before after
+MeansGenerated number before after status.NoMemory = SummarisesNothing before after
+MeansGenerated number before after status.TooMuchInput = ⊥
+
+-- words that say nothing: nothing is read or written
+abbrev pub MeansNothing : Outside → Outside → Status → Type 0
+MeansNothing before after status.Words = after ≡ before
+MeansNothing before after status.NoMemory = after ≡ before
+MeansNothing before after status = ⊥
+
+-- what each status means, by what the words say
+abbrev pub Means : Option Task → Disk → Outside → Outside → Status → Type 0
+Means (Some (loads words)) disk before after status = MeansRead (load_and_test words) disk before after status
+Means (Some runs_script) disk before after status = MeansRead script disk before after status
+Means (Some (generates number)) disk before after status = MeansGenerated number before after status
+Means None disk before after status = MeansNothing before after status
+
+-- why a status comes where the input is read, whatever the files tell
+abbrev pub HasReadCause : Outside → Outside → Status → Type 0
+HasReadCause before after status.Done = WholeInput before.source after.source
+HasReadCause before after status.Refused = WholeInput before.source after.source
+HasReadCause before after status.Words = ⊥
+HasReadCause before after status.ReadFault = InputToFault before.source after.source
+HasReadCause before after status.WriteFault = Rose before.sink.faults after.sink.faults × StoppedInput before.source after.source
+HasReadCause before after status.NoMemory = StoppedInput before.source after.source
+HasReadCause before after status.TooMuchInput = InputPastLimit before.source after.source
+
+-- -g: a write failed only where the sink's count rose
+abbrev pub HasWriteCause : Outside → Outside → Status → Type 0
+HasWriteCause before after status.WriteFault = Rose before.sink.faults after.sink.faults
+HasWriteCause before after status = Unit {0}
+
+-- why a status comes, by what the words say
+abbrev pub HasCause : Option Task → Outside → Outside → Status → Type 0
+HasCause (Some (loads words)) before after status = HasReadCause before after status
+HasCause (Some runs_script) before after status = HasReadCause before after status
+HasCause (Some (generates number)) before after status = MeansGenerated number before after status × HasWriteCause before after status
+HasCause None before after status = MeansNothing before after status
 
 -- the status where the words can't be had from the runtime: without memory, or because one is no text
 abbrev pub unread_words : ErrorKind → Status

@@ -1,18 +1,17 @@
-//! The program: reads its words, loads a file of rules and answers packet records, a line each.
-//! It stands on all the crates below. The contract of `program::run` says what is written; `main` makes the real
-//! files, input and output, and hands on the status.
+//! The program: reads its words, and executes the lines that they and the input give on the machine (pfctl(8)).
+//! It stands on pf_engine, which does a step for each line, on pf_words (its words), pf_runs (what a run over lines is),
+//! pf_source (files, input and output) and pf_gen (the generated run). The contract of `program::run` says what is
+//! written; `main` makes the real files, input and output, and hands on the status.
 #![tactic(auto)]
 
 ghost use Rattle.std.specs.Prelude.{◌≡◌};
 ghost use Rattle.std.specs.IoError.{error_kind};
 ghost use Rattle.pfctl.specs.Program.{unread_words};
 
-mod definition;
-mod engine;
-mod facts;
-mod kinds;
+mod generating;
+mod laws;
+mod opening;
 mod program;
-mod replies;
 mod session;
 #[cfg(test)]
 mod tests;

@@ -1,19 +1,19 @@
 //! A run: the machine, the lines that it has executed, and what it has written.
-ghost use Rattle.std.specs.Prelude.{◌≡◌, ◌∷◌, ◌++◌, [], true, false, OnOk, IfErr, IfSome, option_copied};
+ghost use Rattle.std.specs.Prelude.{◌≡◌, ◌+◌, ◌-◌, ◌^◌, ◌<◌, ◌≤◌, ◌∷◌, ◌++◌, [], true, false, OnOk, OnErr, length};
 ghost use Rattle.pf_base.specs.Text.{IsOneLine, whole_lines, unfinished};
 ghost use Rattle.pf_source.specs.Causes.{CountsOn};
-ghost use Rattle.pf_source.specs.Disk.{Disk};
-ghost use Rattle.pf_source.specs.Told.{FilesTold, Told, file_of};
+ghost use Rattle.pf_state.specs.Machine.{empty_machine};
+ghost use Rattle.pf_words.specs.Said.{load_of, text_if};
 ghost use Rattle.pfctl.specs.declared.session.Stop.TheVariants.{NoMemory as stop_no_memory};
-ghost use Rattle.pfctl.specs.Doing.{EndsInput, FailsByCount, Performs, RunsOver, Sends, StopsOver, world};
-ghost use Rattle.pfctl.specs.Machine.{empty_machine};
-ghost use Rattle.pfctl.specs.Input.{says_something, test_lines};
-ghost use Rattle.pfctl.specs.Program.{is_file_word, is_word, load_line};
+ghost use Rattle.pfctl.specs.Doing.{EndsInput, FailsByCount, Performs, Sends, count_pieces, world};
+ghost use Rattle.pfctl.specs.Lines.{first_lines, hosts_lines, load_line, said_lines, says_something};
 
-use crate::engine::Engine;
+use crate::opening::{put_hosts_line, put_load_line};
+use pf_base::NoMemory;
 use pf_base::text::{lines_go_on, split_line};
-use pf_base::{NoMemory, Text};
+use pf_engine::Engine;
 use pf_source::{Files, Sink, SinkFault, Source};
+use pf_words::LoadWords;
 use std::alloc::{AllocError, Global};
 
 /// Why a run stops before its end.
@@ -58,20 +58,25 @@ const MOST_INPUT: usize = 67_108_864;
 /// How many bytes of the input are asked for at a time.
 const CHUNK: usize = 65_536;
 
-/// The machine, whether some line was refused so far, and the reply to the line in hand.
+/// The machine, whether some line was refused so far, and the line in hand with its reply.
 #[derive(Drop)]
 pub struct Session {
     engine: Engine,
     refused: bool,
+    line: Vec<u8>,
     reply: Vec<u8>,
 }
 
-// Writes a reply, in one write.
-fn send<W: Sink>(out: &mut W, reply: &[u8]) -> Result<(), Stop>
+// Writes a reply, in one write; a line without a reply makes none.
+pub(crate) fn send<W: Sink>(out: &mut W, reply: &[u8]) -> Result<(), Stop>
     ensures sends { Sends (W.tells out.old) (W.tells out.new) reply.now result }
-    ensures once { CountsOn 1 (W.tells out.old).calls (W.tells out.new).calls }
+    ensures sent { OnOk result (CountsOn (count_pieces reply.now) (W.tells out.old).calls (W.tells out.new).calls) }
+    ensures tried { OnErr result (CountsOn 1 (W.tells out.old).calls (W.tells out.new).calls) }
     ensures causes { FailsByCount (W.tells out.old) (W.tells out.new) result }
 {
+    if reply.is_empty() {
+        return Ok(());
+    }
     match out.write(reply) {
         Ok(()) => Ok(()),
         Err(SinkFault::Failed) => Err(Stop::WriteFault),
@@ -98,6 +103,7 @@ impl Session {
         Session {
             engine: Engine::new(alloc),
             refused: false,
+            line: Vec::new(alloc),
             reply: Vec::new(alloc),
         }
     }
@@ -109,56 +115,131 @@ impl Session {
         self.refused
     }
 
-    /// Executes the line `load FILE`, or `load -D WORD FILE`.
-    pub fn load<F: Files, W: Sink>(
+    // Executes the line in hand, and writes its reply.
+    fn execute<F: Files, W: Sink>(
         &mut self,
         alloc: Global,
         files: &mut F,
         out: &mut W,
-        define: Option<&[u8]>,
-        file: &Text,
     ) -> Result<(), Stop>
-        requires file { is_file_word file.now ≡ true }
-        requires define { IfSome (option_copied define) (λ word. is_word word ≡ true) }
-        ensures runs { Told (F.tells files.old).held (λ held. Performs (file_of held) (load_line (option_copied define.entry) file.now ∷ [])
-            (world self.old (F.tells files.old) (W.tells out.old)) (world self.new (F.tells files.new) (W.tells out.new)) result) }
+        requires next { self.old.engine.next < 2 ^ 64 - 1 }
+        ensures runs { Performs (self.old.line.items ∷ [])
+            (world self.old (F.tells files.old) (W.tells out.old)) (world self.new (F.tells files.new) (W.tells out.new)) result }
+        ensures drawn { self.new.engine.next ≤ self.old.engine.next + 1 }
         ensures causes { FailsByCount (W.tells out.old) (W.tells out.new) result }
     {
+        self.reply.clear();
         let outcome = self
             .engine
-            .load(alloc, files, define, file, &mut self.reply)?;
+            .step(alloc, files, self.line.as_slice(), &mut self.reply)?;
         send(out, self.reply.as_slice())?;
         self.refused |= outcome.is_refused();
         Ok(())
     }
 
-    // Executes the `test` line of a line of the input, where it says something.
-    fn test<W: Sink>(&mut self, out: &mut W, line: &[u8]) -> Result<(), Stop>
-        ensures runs { (disk : Disk) (files : FilesTold) → Performs disk (test_lines (line.now ∷ []))
-            (world self.old files (W.tells out.old)) (world self.new files (W.tells out.new)) result }
+    // Executes the line `hosts FACTS`, where a file of facts is given.
+    fn hosts<F: Files, W: Sink>(
+        &mut self,
+        alloc: Global,
+        files: &mut F,
+        out: &mut W,
+        facts: Option<&str>,
+    ) -> Result<(), Stop>
+        requires next { self.old.engine.next < 2 ^ 64 - 1 }
+        ensures runs { Performs (hosts_lines (text_if facts.entry))
+            (world self.old (F.tells files.old) (W.tells out.old)) (world self.new (F.tells files.new) (W.tells out.new)) result }
+        ensures drawn { self.new.engine.next ≤ self.old.engine.next + 1 }
+        ensures causes { FailsByCount (W.tells out.old) (W.tells out.new) result }
+    {
+        let Some(facts) = facts else {
+            return Ok(());
+        };
+        put_hosts_line(&mut self.line, facts)?;
+        self.execute(alloc, files, out)
+    }
+
+    // Executes the line `load OPTS FILE`.
+    fn load<F: Files, W: Sink>(
+        &mut self,
+        alloc: Global,
+        files: &mut F,
+        out: &mut W,
+        words: LoadWords<'_>,
+    ) -> Result<(), Stop>
+        requires next { self.old.engine.next < 2 ^ 64 - 1 }
+        ensures runs { Performs (load_line (load_of words.entry) ∷ [])
+            (world self.old (F.tells files.old) (W.tells out.old)) (world self.new (F.tells files.new) (W.tells out.new)) result }
+        ensures drawn { self.new.engine.next ≤ self.old.engine.next + 1 }
+        ensures causes { FailsByCount (W.tells out.old) (W.tells out.new) result }
+    {
+        put_load_line(&mut self.line, words)?;
+        self.execute(alloc, files, out)
+    }
+
+    /// Executes the lines that the words of a load give: `hosts FACTS`, where facts are given, and `load OPTS FILE`.
+    pub fn begin<F: Files, W: Sink>(
+        &mut self,
+        alloc: Global,
+        files: &mut F,
+        out: &mut W,
+        words: LoadWords<'_>,
+    ) -> Result<(), Stop>
+        requires next { self.old.engine.next < 2 ^ 63 }
+        ensures runs { Performs (first_lines (load_of words.entry))
+            (world self.old (F.tells files.old) (W.tells out.old)) (world self.new (F.tells files.new) (W.tells out.new)) result }
+        ensures drawn { self.new.engine.next ≤ self.old.engine.next + 2 }
+        ensures causes { FailsByCount (W.tells out.old) (W.tells out.new) result }
+    {
+        self.hosts(alloc, files, out, words.hosts)?;
+        self.load(alloc, files, out, words)
+    }
+
+    // Executes a line of the input behind `lead`, where it says something.
+    fn execute_said<F: Files, W: Sink>(
+        &mut self,
+        alloc: Global,
+        files: &mut F,
+        out: &mut W,
+        lead: &[u8],
+        line: &[u8],
+    ) -> Result<(), Stop>
+        requires next { self.old.engine.next < 2 ^ 64 - 1 }
+        ensures runs { Performs (said_lines lead.now (line.now ∷ []))
+            (world self.old (F.tells files.old) (W.tells out.old)) (world self.new (F.tells files.new) (W.tells out.new)) result }
+        ensures drawn { self.new.engine.next ≤ self.old.engine.next + 1 }
         ensures causes { FailsByCount (W.tells out.old) (W.tells out.new) result }
     {
         if !says(line) {
             return Ok(());
         }
-        let outcome = self.engine.test(line, &mut self.reply)?;
-        send(out, self.reply.as_slice())?;
-        self.refused |= outcome.is_refused();
-        Ok(())
+        self.line.clear();
+        self.line.extend_from_slice(lead)?;
+        self.line.extend_from_slice(line)?;
+        self.execute(alloc, files, out)
     }
 
     // Executes the lines that end in a piece of the input. `kept` is what stands behind the last newline.
-    fn feed<W: Sink>(&mut self, out: &mut W, kept: &mut Vec<u8>, piece: &[u8]) -> Result<(), Stop>
-        requires { IsOneLine kept.old.items }
-        ensures runs { OnOk result (RunsOver self.old self.new (W.tells out.old) (W.tells out.new) (whole_lines (kept.old.items ++ piece.now))) }
-        ensures stops { IfErr result (λ why. StopsOver why self.old self.new (W.tells out.old) (W.tells out.new) (whole_lines (kept.old.items ++ piece.now))) }
+    fn feed<F: Files, W: Sink>(
+        &mut self,
+        alloc: Global,
+        files: &mut F,
+        out: &mut W,
+        lead: &[u8],
+        kept: &mut Vec<u8>,
+        piece: &[u8],
+    ) -> Result<(), Stop>
+        requires one { IsOneLine kept.old.items }
+        requires next { self.old.engine.next + length piece.now < 2 ^ 64 - 1 }
+        ensures runs { Performs (said_lines lead.now (whole_lines (kept.old.items ++ piece.now)))
+            (world self.old (F.tells files.old) (W.tells out.old)) (world self.new (F.tells files.new) (W.tells out.new)) result }
         ensures kept { OnOk result (kept.new.items ≡ unfinished (kept.old.items ++ piece.now)) }
+        ensures drawn { OnOk result (self.new.engine.next ≤ self.old.engine.next + length piece.now) }
         ensures causes { FailsByCount (W.tells out.old) (W.tells out.new) result }
     {
         let mut rest = piece;
         while let Some((line, behind)) = split_line(rest) {
             kept.extend_from_slice(line)?;
-            self.test(out, kept.as_slice())?;
+            self.execute_said(alloc, files, out, lead, kept.as_slice())?;
             kept.clear();
             rest = behind;
         }
@@ -166,14 +247,18 @@ impl Session {
         Ok(())
     }
 
-    /// Executes the lines of the input as they become whole, up to its end or its limit.
-    pub fn read_input<S: Source, W: Sink>(
+    /// Executes the lines of the input, each behind `lead`, as they become whole, up to the input's end or its limit.
+    pub fn read_input<F: Files, S: Source, W: Sink>(
         &mut self,
         alloc: Global,
+        files: &mut F,
         input: &mut S,
         out: &mut W,
+        lead: &[u8],
     ) -> Result<Ending, Stop>
-        ensures ends { EndsInput self.old self.new (S.tells input.old) (S.tells input.new) (W.tells out.old) (W.tells out.new) result }
+        requires next { self.old.engine.next < 2 ^ 63 }
+        ensures ends { EndsInput lead.now (S.tells input.old) (S.tells input.new)
+            (world self.old (F.tells files.old) (W.tells out.old)) (world self.new (F.tells files.new) (W.tells out.new)) result }
         ensures causes { FailsByCount (W.tells out.old) (W.tells out.new) result }
     {
         lines_go_on();
@@ -185,14 +270,14 @@ impl Session {
                 return Ok(Ending::ReadFault);
             };
             if count == 0 {
-                self.test(out, kept.as_slice())?;
+                self.execute_said(alloc, files, out, lead, kept.as_slice())?;
                 return Ok(Ending::AtEnd);
             }
             if count > allowed {
-                self.feed(out, &mut kept, &chunk[..allowed])?;
+                self.feed(alloc, files, out, lead, &mut kept, &chunk[..allowed])?;
                 return Ok(Ending::TooMuch);
             }
-            self.feed(out, &mut kept, &chunk[..count])?;
+            self.feed(alloc, files, out, lead, &mut kept, &chunk[..count])?;
             allowed -= count;
         }
     }

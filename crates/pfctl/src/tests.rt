@@ -35,6 +35,9 @@ fn held(alloc: Global, name: &str, bytes: &str) -> Result<Vec<HeldFile>, AllocEr
 // What `x.inc` holds beside `f.conf`: its second line has a string without an end.
 const INCLUDED: &str = "pass\npass label \"abc";
 
+// The facts of a host with one interface.
+const FACTS: &str = "interface em0 egress\naddress em0 192.0.2.10/24\n";
+
 // A run of these words over sure objects: the file `f.conf`, the input, the output and the status.
 fn check(
     rt: &impl Abort,
@@ -47,10 +50,16 @@ fn check(
 ) -> Result<(), AllocError> {
     let words = words(alloc, given)?;
     let mut content = held(alloc, "f.conf", conf)?;
-    content.push(HeldFile {
-        name: text(alloc, "x.inc")?,
-        bytes: text(alloc, INCLUDED)?,
-    })?;
+    for (name, bytes) in [
+        ("x.inc", INCLUDED),
+        ("facts", FACTS),
+        ("profile", "/ 1 5\n"),
+    ] {
+        content.push(HeldFile {
+            name: text(alloc, name)?,
+            bytes: text(alloc, bytes)?,
+        })?;
+    }
     let mut files = SureFiles::new(content);
     let mut source = SureSource::new(text(alloc, input)?);
     let mut sink = SureSink::new(alloc);
@@ -206,10 +215,93 @@ fn long_definitions(rt: HostRuntime) -> Result<(), Fail> {
     Ok(())
 }
 
+// A record of the first rows: UDP from 10.0.0.1 to 192.0.2.10.
+const UDP: &str = "in em0 udp 10.0.0.1 192.0.2.10 sport=1024 dport=53\n";
+
+// The options of a load, beside a file of rules that asks for the host's addresses.
+#[test]
+fn options(rt: HostRuntime) -> Result<(), Fail> {
+    let alloc = rt.alloc();
+    let conf = "block\npass to (egress)\n";
+    let rows: [(&[&str], &str, Status); 6] = [
+        // The facts are known to the load and to the records.
+        (
+            &["-f", "f.conf", "-H", "facts"],
+            "ok hosts 1\nok load rulesets=1 rules=2 tables=0\npass keep state\n",
+            Status::Done,
+        ),
+        (
+            &["-f", "f.conf", "-o", "none", "-P", "profile"],
+            "ok load rulesets=1 rules=2 tables=0\nblock drop\n",
+            Status::Done,
+        ),
+        // The main ruleset stays empty.
+        (
+            &["-ax", "-f", "f.conf"],
+            "ok load rulesets=1 rules=2 tables=0\npass no state\n",
+            Status::Done,
+        ),
+        (
+            &["-P", "facts", "-f", "f.conf"],
+            "refused 14 ProfileFault 1\npass no state\n",
+            Status::Refused,
+        ),
+        // Words that are read, and a line that is no command.
+        (
+            &["-o", "bad", "-f", "f.conf"],
+            "refused 1 BadCommand\npass no state\n",
+            Status::Refused,
+        ),
+        (
+            &["-f-x"],
+            "refused 1 BadCommand\npass no state\n",
+            Status::Refused,
+        ),
+    ];
+    for (given, want, status) in rows {
+        check(&rt, alloc, given, conf, UDP, want, status)?;
+    }
+    Ok(())
+}
+
+// Script lines: two sessions over one ruleset, of which the one that began first has lost its ticket.
+#[test]
+fn scripts(rt: HostRuntime) -> Result<(), Fail> {
+    let script =
+        "open s1 f.conf\n# s2 begins later\n\nopen s2 f.conf\nopen s1 f.conf\ntest in em0 udp 10.0.0.1 192.0.2.10 sport=1024 dport=53\ncommit s1\ncommit s2\ncommit s1\nshow written /\ntable / t show\nreload f.conf\ntest in em0 udp 10.0.0.1 192.0.2.10 sport=1024 dport=53";
+    let want =
+        "ok open s1 ticket=1\nok open s2 ticket=2\nrefused 5 SessionOpen s1\npass no state\nrefused 4 Stale / 1 2\nok commit s2\nrefused 6 NoSession s1\nok written 1\nblock drop from <t> to any tag b\nok table 1\n10.0.0.0/8\nrefused 1 BadCommand\nblock drop tag b\n";
+    check(
+        &rt,
+        rt.alloc(),
+        &["-S"],
+        "table <t> { 10/8 }\nblock from <t> tag b\n",
+        script,
+        want,
+        Status::Refused,
+    )?;
+    Ok(())
+}
+
+// A generated run, of which one record meets a rule that lets it pass; nothing is read.
+#[test]
+fn a_generated_run(rt: HostRuntime) -> Result<(), Fail> {
+    check(
+        &rt,
+        rt.alloc(),
+        &["-g", "135"],
+        "x",
+        "load f.conf\n",
+        "gen 135 rules=2001 pass=1 block=4999\n",
+        Status::Done,
+    )?;
+    Ok(())
+}
+
 #[test]
 fn other_words(rt: HostRuntime) -> Result<(), Fail> {
     let alloc = rt.alloc();
-    let rows: [&[&str]; 12] = [
+    let rows: [&[&str]; 14] = [
         &[],
         &["-f"],
         &["f.conf"],
@@ -217,8 +309,10 @@ fn other_words(rt: HostRuntime) -> Result<(), Fail> {
         &["-f", "-x"],
         &["-f", "f g"],
         &["-f", "f.conf", "x"],
-        &["-g", "f.conf"],
+        &["-g", "01"],
         &["-D", "p=1"],
+        &["-f", "f.conf", "-S"],
+        &["-S", "-o", "none"],
         &["-f", "f.conf", "-D", "p q"],
         &["-f", "f.conf", "-f", "f.conf"],
         &["-D", "p=1", "-D", "q=1", "-f", "f.conf"],

@@ -1,15 +1,13 @@
 use Rattle.std.proofs.Common.{map, string_bytes}
-use Rattle.std.specs.Option.{option_copied}
-use Rattle.pfctl.specs.Program.{words_with}
-use Rattle.pfctl.proofs.Programs.{read_are_words}
+use Rattle.pf_words.specs.Said.{words_read}
+use Rattle.pfctl.specs.Program.{outside}
+use Rattle.pfctl.proofs.Tasks.{idle_cause, idle_means}
 use Rattle.pfctl.proofs.program.run.Goals as goal
 
-pub execute-requires-clause-file : goal.execute-requires-clause-file
-execute-requires-clause-file g c =
-    let said = words_with (option_copied c.in-Some.said.define) c.in-Some.said.file.now in
-    (read_are_words (map string_bytes c.args.words.now) said c.in-Some.ensures.read).file
+pub returns-in-Err-NoMemory-clause-means : goal.returns-in-Err-NoMemory-clause-means
+returns-in-Err-NoMemory-clause-means g c =
+    idle_means (words_read (map string_bytes c.args.words.now)) (outside (g.F.Files.tells c.args.files.now) (g.S.Source.tells c.args.input.now) (g.W.Sink.tells c.args.out.now))
 
-pub execute-requires-clause-define : goal.execute-requires-clause-define
-execute-requires-clause-define g c =
-    let said = words_with (option_copied c.in-Some.said.define) c.in-Some.said.file.now in
-    (read_are_words (map string_bytes c.args.words.now) said c.in-Some.ensures.read).define
+pub returns-in-Err-NoMemory-clause-cause : goal.returns-in-Err-NoMemory-clause-cause
+returns-in-Err-NoMemory-clause-cause g c =
+    idle_cause (words_read (map string_bytes c.args.words.now)) (outside (g.F.Files.tells c.args.files.now) (g.S.Source.tells c.args.input.now) (g.W.Sink.tells c.args.out.now))

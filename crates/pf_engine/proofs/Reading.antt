@@ -1,0 +1,105 @@
+-- What files come to, with one that couldn't be read.
+use Rattle.std.proofs.Common.{◌≡◌, ℕ, ◌<◌, ◌≤◌, Bool, true, false, List, [], ◌∷◌, ◌++◌, length, Option, Some, None, Result, Ok, Err, refl, sym, ap, ◌∙◌, subst, arith}
+use Rattle.std.specs.Prelude.{nat_eq, nat_lt, if◌then◌else◌}
+use Rattle.std.specs.Cmp.Lexicographic.{pointwise}
+use Rattle.std.specs.List.{AllZip}
+use Rattle.std.proofs.lemmas.Bool.{false≢true}
+use Rattle.std.proofs.lemmas.Bool.Decides.{Decides-eqb, nat_tests}
+use Rattle.std.proofs.lemmas.Slice.Eq.{slice_eq-Decides}
+use Rattle.pf_base.specs.Text.{lines_of, unfinished, whole_lines}
+use Rattle.pf_host.specs.Facts.{HostFacts}
+use Rattle.pf_optim.specs.Profile.{IsFaultAt, Says, said_lines}
+use Rattle.pf_optim.specs.declared.rows.Row.{Row}
+use Rattle.pf_reply.specs.Refusals.{unread_of}
+use Rattle.pf_reply.specs.declared.refusal.Refusal.{Refusal}
+use Rattle.pf_reply.specs.declared.refusal.Refusal.TheVariants as refusals
+use Rattle.pf_script.specs.declared.command.LoadLine.{LoadLine}
+use Rattle.pf_source.specs.Disk.{Disk, without}
+use Rattle.pf_source.specs.DiskLaws.{is_absent}
+use Rattle.pf_state.specs.declared.ready.Ready.{Ready}
+use Rattle.pf_engine.specs.Bounded.{IsFile, IsLarge}
+use Rattle.pf_engine.specs.FilesRead.{outage_in}
+use Rattle.pf_engine.specs.LoadLines.{FileComes, LineComes, ProfileIn, ProfileReads, ProfileSays, ProfileSized, most_bytes, options_of}
+
+within_bytes : (n : ℕ) → n ≤ most_bytes → nat_lt most_bytes n ≡ false
+within_bytes n h = grind (arith, nat_tests)
+
+past_bytes : (n : ℕ) → most_bytes < n → nat_lt most_bytes n ≡ true
+past_bytes n h = grind (arith, nat_tests)
+
+-- the lines of nothing say no row
+no_lines : lines_of [] ≡ []
+unfolding lines_of whole_lines unfinished
+no_lines = refl
+
+no_rows : (lines : List (List ℕ)) (rows : List Row) → lines ≡ [] → AllZip Says (said_lines lines) rows → rows ≡ []
+no_rows [] [] e h = refl
+no_rows [] (row ∷ rows) e h = absurd h
+no_rows (line ∷ lines) rows e h = cc
+
+no_fault : (before : List (List ℕ)) (line : List ℕ) (behind : List (List ℕ)) → [] ≡ before ++ line ∷ behind → ⊥
+no_fault [] line behind e = cc
+no_fault (one ∷ before) line behind e = cc
+
+-- the profile of nothing has no row
+pub nothing_says : (answer : Result (List Row) Refusal) → ProfileSays [] answer → answer ≡ Ok []
+nothing_says (Ok rows) says = ap (λ (rows : List Row). Ok rows) (no_rows (lines_of []) rows no_lines says.said)
+nothing_says (Err (refusals.ProfileFault line)) fault = absurd (no_fault fault.before fault.line fault.behind (sym no_lines ∙ fault.is))
+nothing_says (Err refusal) says = absurd says
+
+-- the profile of a file that was read
+profile_said : (disk : Disk) (name text : List ℕ) (answer : Result (List Row) Refusal) → disk name ≡ Some text → length text ≤ most_bytes → ProfileSays text answer → ProfileIn name (disk name) answer
+profile_said disk name text answer is fits says =
+    subst (λ (held : Option (List ℕ)). ProfileIn name held answer) (sym is)
+    (subst (λ (b : Bool). ProfileSized b text answer) (sym (within_bytes (length text) fits)) says)
+
+pub profile_read : (disk : Disk) (name text : List ℕ) (answer : Result (List Row) Refusal) → IsFile (disk name) text → ProfileSays text answer → ProfileIn name (without (outage_in answer) disk name) answer
+profile_read disk name text (Ok rows) file says = profile_said disk name text (Ok rows) file.is file.fits says
+profile_read disk name text (Err (refusals.ProfileFault line)) file says = profile_said disk name text (Err (refusals.ProfileFault line)) file.is file.fits says
+profile_read disk name text (Err refusal) file says = absurd says
+
+-- of one that is too large
+pub profile_large : (disk : Disk) (name : List ℕ) → IsLarge (disk name) → ProfileIn name (disk name) (Err (refusals.ProfileFault 0))
+profile_large disk name large =
+    let answer : Result (List Row) Refusal = Err (refusals.ProfileFault 0) in
+    subst (λ (held : Option (List ℕ)). ProfileIn name held answer) (sym large.is)
+    (subst (λ (b : Bool). ProfileSized b large.text answer) (sym (past_bytes (length large.text) large.over)) refl)
+
+-- of one that couldn't be read
+pub profile_lost : (disk : Disk) (name : List ℕ) → ProfileIn name (without (Some name) disk name) (Err (refusals.CannotRead name))
+profile_lost disk name =
+    let answer : Result (List Row) Refusal = Err (refusals.CannotRead name) in
+    subst (λ (held : Option (List ℕ)). ProfileIn name held answer) (sym (is_absent disk name)) refl
+
+-- Where the file of a line couldn't be read behind its profile, the profile is as it was, unless it is that very file.
+lost_behind : (disk : Disk) (facts : HostFacts) (line : LoadLine) (rows : List Row) (name : List ℕ) (profile : Option (List ℕ)) → profile ≡ line.profile → ProfileReads disk profile (Ok rows) → FileComes (without (Some name) disk) facts (options_of line) line.file rows (Err (refusals.CannotRead name)) → LineComes (without (Some name) disk) facts line (Err (refusals.CannotRead name))
+lost_behind disk facts line rows name None e reads comes = record {
+  profile = Ok rows;
+  reads = subst (λ (p : Option (List ℕ)). ProfileReads (without (Some name) disk) p (Ok rows)) e reads;
+  comes = comes;
+}
+lost_behind disk facts line rows name (Some file) e reads comes =
+    elim (pointwise nat_eq file name) as (λ b. pointwise nat_eq file name ≡ b → LineComes (without (Some name) disk) facts line (Err (refusals.CannotRead name))) [
+      | true ↦ λ same. record {
+        profile = Err (refusals.CannotRead file);
+        reads = subst (λ (p : Option (List ℕ)). ProfileReads (without (Some name) disk) p (Err (refusals.CannotRead file))) e
+            (subst (λ (held : Option (List ℕ)). ProfileIn file held (Err (refusals.CannotRead file))) (sym (ap (λ (b : Bool). if b then None else disk file) same)) refl);
+        comes = ap (λ (n : List ℕ). Err (refusals.CannotRead n)) (sym ((slice_eq-Decides Decides-eqb file name (pointwise nat_eq file name) refl).0 same));
+      }
+      | false ↦ λ apart. record {
+        profile = Ok rows;
+        reads = subst (λ (p : Option (List ℕ)). ProfileReads (without (Some name) disk) p (Ok rows)) e
+            (subst (λ (held : Option (List ℕ)). ProfileIn file held (Ok rows)) (sym (ap (λ (b : Bool). if b then None else disk file) apart)) reads);
+        comes = comes;
+      }
+    ] refl
+
+-- the profile was read, and then the file
+pub line_comes : (disk : Disk) (facts : HostFacts) (line : LoadLine) (rows : List Row) (answer : Result Ready Refusal) → ProfileReads disk line.profile (Ok rows) → FileComes (without (outage_in answer) disk) facts (options_of line) line.file rows answer → LineComes (without (outage_in answer) disk) facts line answer
+line_comes disk facts line rows (Ok ready) reads comes = record { profile = Ok rows; reads = reads; comes = comes }
+line_comes disk facts line rows (Err (refusals.CannotRead name)) reads comes = lost_behind disk facts line rows name line.profile refl reads comes
+line_comes disk facts line rows (Err refusal) reads comes = record { profile = Ok rows; reads = reads; comes = comes }
+
+-- the profile was refused
+pub line_refused : (disk : Disk) (facts : HostFacts) (line : LoadLine) (refusal : Refusal) → ProfileReads (without (outage_in {T = List Row} (Err refusal)) disk) line.profile (Err refusal) → LineComes (without (outage_in {T = Ready} (Err refusal)) disk) facts line (Err refusal)
+line_refused disk facts line refusal reads = record { profile = Err refusal; reads = reads; comes = refl }

@@ -1,5 +1,0 @@
-use Rattle.pf_plan.proofs.OneTable.{table_without}
-use Rattle.pf_plan.proofs.laws.declarations_without_a_file.Goals as goal
-
-pub returns : goal.returns
-returns c = table_without

@@ -1,6 +1,0 @@
-use Rattle.std.proofs.Common.{take, drop}
-use Rattle.pf_plan.proofs.Settling.{SettledSoFar}
-use Rattle.pf_plan.proofs.settle.settle.Given as goal
-
-abbrev pub invariant-loop-one : goal.invariant-loop-one
-invariant-loop-one l = SettledSoFar l.placed (take l.one-index l.placed) (drop l.one-index l.placed) l.seen l.entries

@@ -1,0 +1,16 @@
+pub mod Found
+pub mod Replacing
+pub mod Giving
+pub mod Clearing
+pub mod Mapped
+pub mod Calling
+pub mod Counting
+pub mod Lists
+pub mod Outlining
+pub mod Judging
+pub mod Putting
+pub mod Sums
+pub mod Examples
+pub mod Changing
+pub mod Counted
+pub mod Opening

@@ -1,0 +1,13 @@
+pub mod Rulesets
+pub mod Machine
+pub mod Tickets
+pub mod Commits
+pub mod Limits
+pub mod Judging
+pub mod Sessions
+pub mod Words
+pub mod Tables
+pub mod Flushes
+pub mod Sound
+pub mod Outlines
+pub mod Verdicts

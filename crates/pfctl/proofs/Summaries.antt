@@ -1,0 +1,44 @@
+-- What a generated run comes to is written, or the run stops there.
+use Rattle.std.proofs.Common.{◌≡◌, ℕ, Bool, List, Result, Ok, Err, refl, ap, ◌∙◌, subst}
+use Rattle.std.specs.Io.KnownBytes.{Appends}
+use Rattle.pf_runs.specs.Runs.{pieces_of, reply_text}
+use Rattle.pf_source.specs.Causes.{CountsOn}
+use Rattle.pf_source.specs.KnownLaws.{Keeps-same}
+use Rattle.pf_source.specs.Told.{FilesTold, SinkTold, SourceTold}
+use Rattle.pfctl.specs.declared.session.Stop.{Stop}
+use Rattle.pfctl.specs.declared.session.Stop.TheVariants as stop
+use Rattle.pfctl.specs.Doing.{FailsByCount, Sends, count_pieces, status_by}
+use Rattle.pfctl.specs.Generating.{GeneratesBytes}
+use Rattle.pfctl.specs.Program.{HasWriteCause, MeansGenerated, Summarised, outside}
+use Rattle.pfctl.proofs.Sessions.{one_piece}
+
+module _ (number : ℕ) (files : FilesTold) (source : SourceTold) (old new : SinkTold) (bytes : List ℕ) (refused : Bool) (h : GeneratesBytes number bytes refused) where
+  -- it was written whole
+  pub whole_summary : CountsOn (count_pieces bytes) old.calls new.calls → Appends old.written new.written bytes → Summarised number refused (outside files source old) (outside files source new)
+  whole_summary writes written = record {
+    unread = record { files = refl; source = refl };
+    reply = h.reply;
+    generates = h.generates;
+    written = subst (λ (text : List ℕ). Appends old.written new.written text) h.are written;
+    writes = subst (λ (n : ℕ). CountsOn n old.calls new.calls) (ap count_pieces h.are ∙ one_piece h.reply) writes;
+  }
+
+  -- it wasn't
+  pub cut_summary : (why : Stop) → CountsOn 1 old.calls new.calls → Sends {X = Unit {0}} old new bytes (Err why) → MeansGenerated number (outside files source old) (outside files source new) (status_by (Err why))
+  cut_summary stop.WriteFault writes sends = record {
+    unread = record { files = refl; source = refl };
+    reply = h.reply;
+    refused = refused;
+    generates = h.generates;
+    written = subst (λ (text : List ℕ). Sends {X = Unit {0}} old new text (Err stop.WriteFault)) h.are sends;
+    writes = writes;
+  }
+  cut_summary stop.NoMemory writes sends = record { unread = record { files = refl; source = refl }; written = sends }
+
+-- nothing was written
+pub no_summary : (number : ℕ) (files : FilesTold) (source : SourceTold) (sink : SinkTold) → MeansGenerated number (outside files source sink) (outside files source sink) (status_by (Err stop.NoMemory))
+no_summary number files source sink = record { unread = record { files = refl; source = refl }; written = Keeps-same sink.written }
+
+pub cut_cause : (why : Stop) (files : FilesTold) (source : SourceTold) (old new : SinkTold) → FailsByCount {X = Unit {0}} old new (Err why) → HasWriteCause (outside files source old) (outside files source new) (status_by (Err why))
+cut_cause stop.WriteFault files source old new h = h
+cut_cause stop.NoMemory files source old new h = tt
