@@ -1,15 +1,15 @@
-PROGRAM = crates/pfctl/out/pfctl
-EXAMPLE = examples/first
+EXAMPLES = default desktop gateway server sessions
 
-.PHONY: demo test
+.PHONY: demo examples test
 
-# Runs the program on the example: the proved one where it is built, else the sources, compiled before any proof.
+# Two of the examples: a gateway's configuration with packets, and a script of two load sessions. What the program
+# writes is compared with what is expected. It is the proved program where it is built, else the sources, compiled before any proof.
 demo:
-	@if [ -x $(PROGRAM) ]; then \
-		cd $(EXAMPLE) && ../../$(PROGRAM) -f pf.conf < packets; \
-	else \
-		cd crates/pfctl && rt try --data pf.conf=../../$(EXAMPLE)/pf.conf --data services.conf=../../$(EXAMPLE)/services.conf -- -f pf.conf < ../../$(EXAMPLE)/packets; \
-	fi
+	@examples/run gateway sessions
+
+# All of them.
+examples:
+	@examples/run $(EXAMPLES)
 
 # The gate: every proof from nothing, the must-fail edits, the tests and the program.
 test:
