@@ -1,5 +1,6 @@
 //! The generator: from a number a configuration of 2,001 lines and 5,000 packet records, always the same ones, to try
-//! the program with. It stands on pf_base and on pf_parts, which prints numbers. Nothing above uses it yet.
+//! the program with. It stands on pf_base and on pf_parts, which prints numbers. pfctl loads
+//! the one and asks the others (pfctl(8), -g).
 #![tactic(auto)]
 
 pub mod content;

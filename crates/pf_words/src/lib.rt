@@ -1,5 +1,5 @@
 //! The words of the program (pfctl(8), SYNOPSIS), read by clap as one simple command: -f with its options, -S, or -g.
-//! It stands on pf_base and clap. Nothing above uses it yet: the program still reads its words by hand.
+//! It stands on pf_base and clap. pfctl does what they say.
 #![tactic(auto)]
 
 mod command;
