@@ -31,6 +31,12 @@ pub each_hold : (xs : List Bool) → Each xs → all_hold xs ≡ true
 each_hold [] e = refl
 each_hold (x ∷ xs) e = and_from x (all_hold xs) e.0 (each_hold xs e.1)
 
+pub hold_each : (xs : List Bool) → all_hold xs ≡ true → Each xs
+hold_each [] h = tt
+hold_each (x ∷ xs) h =
+    let parts = and_parts x (all_hold xs) h in
+    (parts.0, hold_each xs parts.1)
+
 pub or_cases : (x y : Bool) → (x || y) ≡ true → (x ≡ true) ⊎ (y ≡ true)
 or_cases true y h = inl refl
 or_cases false y h = inr h

@@ -1,19 +1,15 @@
 -- The weight of a dropped rule goes to the place of the first kept rule that covers it.
-use Rattle.std.proofs.Common.{◌≡◌, ℕ, suc, ◌+◌, ◌<◌, ◌≤◌, cond, Bool, true, false, not, List, [], ◌∷◌, ◌++◌, map, sum, length, get_or, set, drop, refl, sym, ap, ◌∙◌, subst, append-nil, append_assoc, Some, None, nat_lt, arith}
-use Rattle.std.proofs.lemmas.Bool.{ltb-false}
+use Rattle.std.proofs.Common.{◌≡◌, ℕ, suc, ◌+◌, ◌<◌, ◌≤◌, cond, Bool, true, false, not, List, [], ◌∷◌, ◌++◌, map, sum, length, get_or, set, drop, refl, sym, ap, ◌∙◌, subst, append-nil, append_assoc, arith}
 use Rattle.std.proofs.lemmas.List.{at_drop_more, drop_all}
 use Rattle.std.proofs.lemmas.List.FromFn.{get_or-enumerate_from, length-enumerate_from}
 use Rattle.std.proofs.lemmas.Slice.Zip.{get_or-zip, length-zip}
-use Rattle.std.proofs.lemmas.List.Sums.{prefix_len-le-length, sum_by-cons}
-use Rattle.std.specs.List.{filter, fold, position, position_or_len, zip}
+use Rattle.std.proofs.lemmas.List.Sums.{sum_by-cons}
+use Rattle.std.specs.List.{filter, fold, position_or_len, zip}
 use Rattle.pf_rule.specs.declared.rule.Rule.{Rule}
 use Rattle.pf_cover.specs.Cover.{covers}
 use Rattle.pf_cover.specs.Kept.{given_to_first, placed}
+use Rattle.pf_cover.specs.Search.{covering}
 use Rattle.pf_cover.proofs.Keeping.{given_length, given_sum, own_of, second_sum, weighed_of}
-
--- the test of the rules that cover one
-abbrev pub covering : Rule → Rule → Bool
-covering rule one = covers one.criteria rule.criteria
 
 -- the weights with one of them raised
 abbrev pub raised : List ℕ → ℕ → ℕ → List ℕ
@@ -91,21 +87,3 @@ to_give dropped item items h =
 pub given_if_length : (kept : List Rule) (weights : List ℕ) (dropped : Bool) (d : Rule × ℕ) → length (cond dropped (given_to_first kept weights d) weights) ≡ length weights
 given_if_length kept weights true d = given_length kept weights d
 given_if_length kept weights false d = refl
-
--- what `position` finds is that place, and where it finds none that place is the end
-is_place : (b : Bool) (n i : ℕ) → cond b (Some n) None ≡ Some i → i ≡ n
-is_place true n i h = cc
-is_place false n i h = cc
-
-no_place : (b : Bool) (n : ℕ) → cond b (Some n) None ≡ None → b ≡ false
-no_place true n h = cc
-no_place false n h = refl
-
-pub found_place : {X : Type 0} (p : X → Bool) (xs : List X) (i : ℕ) → position p xs ≡ Some i → i ≡ position_or_len p xs
-found_place p xs i h = is_place (nat_lt (position_or_len p xs) (length xs)) (position_or_len p xs) i h
-
-pub past_end : {X : Type 0} (p : X → Bool) (xs : List X) → position p xs ≡ None → length xs ≡ position_or_len p xs
-past_end p xs h =
-    let most : position_or_len p xs ≤ length xs = prefix_len-le-length (λ x. not (p x)) xs in
-    let least : length xs ≤ position_or_len p xs = ltb-false _ _ (no_place (nat_lt (position_or_len p xs) (length xs)) (position_or_len p xs) h) in
-    omega arith

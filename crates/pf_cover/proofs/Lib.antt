@@ -4,5 +4,6 @@ pub mod Covering
 pub mod Tops
 pub mod Keeping
 pub mod Giving
+mod Within
 mod Corners
 mod Searching

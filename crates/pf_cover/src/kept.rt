@@ -1,12 +1,9 @@
 //! The rules of a block that are kept, and their weights.
 ghost use Rattle.std.specs.Prelude.{◌≡◌, ◌+◌, ◌<◌, ◌^◌, ◌++◌, [], ◌∷◌, ℕ, length, sum, IfOk, IsTrue, OnOk, slice_index_or, if◌then◌else◌};
-ghost use Rattle.std.specs.List.{position, position_or_len};
-ghost use Rattle.pf_cover.specs.Cover.{covers};
-ghost use Rattle.pf_cover.specs.Search.{dropped_of};
+ghost use Rattle.pf_cover.specs.Search.{HoldsCorners, dropped_of};
 ghost use Rattle.pf_cover.specs.Kept.{given_to_first, is_dropped, kept_places, kept_rules, kept_weights, own_weights};
 
-use crate::cover::covers;
-use crate::search::dropped;
+use crate::search::{Corners, corners_over, dropped, first_covering};
 use pf_base::{List, NoMemory};
 use pf_rule::Rule;
 use std::alloc::Global;
@@ -105,11 +102,12 @@ fn weights_kept(
     requires kept { kept.now ≡ kept_rules rules.now }
     ensures { IfOk result (λ weights_kept. weights_kept.items ≡ kept_weights rules.now weights.now) }
 {
+    let found = corners_over(alloc, kept)?;
     let mut given = weights_alone(alloc, rules, weights, flags)?;
     for i in 0..rules.len() {
         let rule = &rules[i];
         let dropped = is_dropped(flags, rules, i, rule);
-        give_if(kept, &mut given, dropped, rule, weights[i]);
+        give_if(&found, kept, &mut given, dropped, rule, weights[i]);
     }
     Ok(given)
 }
@@ -144,40 +142,33 @@ fn push_weight_unless(own: &mut Vec<u64>, dropped: bool, weight: u64) -> Result<
 }
 
 // Gives the weight of a dropped rule to the first kept rule that covers it.
-fn give_if(kept: &[Rule], weights: &mut Vec<u64>, dropped: bool, rule: &Rule, weight: u64)
+fn give_if(
+    found: &Corners,
+    kept: &[Rule],
+    weights: &mut Vec<u64>,
+    dropped: bool,
+    rule: &Rule,
+    weight: u64,
+)
+    requires found { HoldsCorners kept.now found.now }
     requires same { length kept.now ≡ length weights.old.items }
     requires fits { IsTrue dropped → sum weights.old.items + weight < 2 ^ 64 }
     ensures { weights.new.items
         ≡ (if dropped then given_to_first kept.now weights.old.items (rule.now, weight) else weights.old.items) }
 {
     if dropped {
-        give(kept, weights, rule, weight);
+        give(found, kept, weights, rule, weight);
     }
 }
 
-fn give(kept: &[Rule], weights: &mut Vec<u64>, rule: &Rule, weight: u64)
+fn give(found: &Corners, kept: &[Rule], weights: &mut Vec<u64>, rule: &Rule, weight: u64)
+    requires found { HoldsCorners kept.now found.now }
     requires same { length kept.now ≡ length weights.old.items }
     requires fits { sum weights.old.items + weight < 2 ^ 64 }
     ensures { weights.new.items ≡ given_to_first kept.now weights.old.items (rule.now, weight) }
 {
-    let place = first_covering(kept, rule);
+    let place = first_covering(found, kept, rule);
     if place < weights.len() {
         weights[place] += weight;
     }
-}
-
-// The place of the first rule that covers it, or their number where none does.
-fn first_covering(kept: &[Rule], rule: &Rule) -> usize
-    ensures { result ≡ position_or_len (λ one. covers one.criteria rule.now.criteria) kept.now }
-{
-    match find_covering(kept, rule) {
-        Some(place) => place,
-        None => kept.len(),
-    }
-}
-
-fn find_covering(kept: &[Rule], rule: &Rule) -> Option<usize>
-    ensures { result ≡ position (λ one. covers one.criteria rule.now.criteria) kept.now }
-{
-    kept.iter().position(|one| covers(one, rule))
 }

@@ -6,6 +6,7 @@
 
 mod corner;
 mod cover;
+mod digest;
 mod kept;
 pub mod laws;
 mod search;
