@@ -1,5 +1,6 @@
 //! The options of a rule (pf.conf(5), GRAMMAR, `filteropt`).
-ghost use Rattle.std.specs.Prelude.{◌≡◌};
+ghost use Rattle.std.specs.Prelude.{◌≡◌, Ok};
+ghost use Rattle.std.specs.Result.{result_and};
 ghost use Rattle.pf_grammar.specs.Options as says;
 ghost use Rattle.pf_grammar.specs.Options.{allow_option, flags_part, groups, icmp_part, label_part, nat_part, no_state, option, option_behind, option_words, prio_part, rdr_part, scrub_option, set_option, state_clause, tag_part, tagged_part, tos_part, users};
 ghost use Rattle.pf_syntax.specs.Taking.{Takes};
@@ -12,7 +13,7 @@ use pf_form::flags::take_flags;
 use pf_form::kind::may_translate;
 use pf_form::setting::{ReadSet, is_no_scrub, take_prio, take_scrub, take_settings, take_tos};
 use pf_form::state::take_state_options;
-use pf_parts::{StateKind, TagTest};
+use pf_parts::{Overload, StateKind, TagTest};
 use pf_rule::Params;
 use pf_syntax::keyword::{Key, take_key};
 use pf_syntax::list::take_list;
@@ -43,88 +44,82 @@ const OPTION_WORDS: [Key<OptionWord>; 19] = [
 
 // Takes the tests of the user.
 #[tactic(auto, unfolding(crate::specs::Options::users))]
-fn take_users(cursor: &mut Cursor, before: Draft) -> Result<Draft, Stop>
-    ensures { Takes (users before) cursor.old result cursor.new }
+fn take_users(cursor: &mut Cursor, draft: &mut Draft) -> Result<(), Stop>
+    ensures { Takes (users draft.old) cursor.old (result_and result (Ok draft.new)) cursor.new }
 {
-    let mut draft = before;
     if !draft.form.users.items().is_empty() {
         return Err(Stop::Outside);
     }
     let tests = take_list(&EachOp, cursor)?;
     draft.group_first = !draft.form.groups.items().is_empty();
     draft.form.users = tests;
-    Ok(draft)
+    Ok(())
 }
 
 // Takes the tests of the group.
 #[tactic(auto, unfolding(crate::specs::Options::groups))]
-fn take_groups(cursor: &mut Cursor, before: Draft) -> Result<Draft, Stop>
-    ensures { Takes (groups before) cursor.old result cursor.new }
+fn take_groups(cursor: &mut Cursor, draft: &mut Draft) -> Result<(), Stop>
+    ensures { Takes (groups draft.old) cursor.old (result_and result (Ok draft.new)) cursor.new }
 {
-    let mut draft = before;
     if !draft.form.groups.items().is_empty() {
         return Err(Stop::Outside);
     }
     let tests = take_list(&EachOp, cursor)?;
     draft.form.groups = tests;
-    Ok(draft)
+    Ok(())
 }
 
 // Takes the flags.
 #[tactic(auto, unfolding(crate::specs::Options::flags_part))]
-fn take_flags_part(cursor: &mut Cursor, before: Draft) -> Result<Draft, Stop>
-    ensures { Takes (flags_part before) cursor.old result cursor.new }
+fn take_flags_part(cursor: &mut Cursor, draft: &mut Draft) -> Result<(), Stop>
+    ensures { Takes (flags_part draft.old) cursor.old (result_and result (Ok draft.new)) cursor.new }
 {
-    let mut draft = before;
     if draft.form.flags.is_some() {
         return Err(Stop::Outside);
     }
     let read = take_flags(cursor)?;
     draft.form.flags = Some(read.flags);
     draft.unknown_flag = read.unknown;
-    Ok(draft)
+    Ok(())
 }
 
 // Takes ICMP types of a family.
 #[tactic(auto, unfolding(crate::specs::Options::icmp_part))]
-fn take_icmp_part(cursor: &mut Cursor, family: Family, before: Draft) -> Result<Draft, Stop>
-    ensures { Takes (icmp_part family before) cursor.old result cursor.new }
+fn take_icmp_part(cursor: &mut Cursor, family: Family, draft: &mut Draft) -> Result<(), Stop>
+    ensures { Takes (icmp_part family draft.old) cursor.old (result_and result (Ok draft.new)) cursor.new }
 {
-    let mut draft = before;
     if !draft.form.icmp.items().is_empty() {
         return Err(Stop::Outside);
     }
     let types = take_list(&EachIcmpType { family }, cursor)?;
     draft.form.icmp = types;
-    Ok(draft)
+    Ok(())
 }
 
 // Takes a value of `tos`.
 #[tactic(auto, unfolding(crate::specs::Options::tos_part))]
-fn take_tos_part(cursor: &mut Cursor, before: Draft) -> Result<Draft, Stop>
-    ensures { Takes (tos_part before) cursor.old result cursor.new }
+fn take_tos_part(cursor: &mut Cursor, draft: &mut Draft) -> Result<(), Stop>
+    ensures { Takes (tos_part draft.old) cursor.old (result_and result (Ok draft.new)) cursor.new }
 {
-    let mut draft = before;
     if draft.form.tos.is_some() {
         return Err(Stop::Outside);
     }
     let value = take_tos(cursor)?;
     draft.form.tos = Some(value);
-    Ok(draft)
+    Ok(())
 }
 
 // Takes a priority.
 #[tactic(auto, unfolding(crate::specs::Options::prio_part))]
-fn take_prio_part(cursor: &mut Cursor, before: Draft) -> Result<Draft, Stop>
-    ensures { Takes (prio_part before) cursor.old result cursor.new }
+fn take_prio_part(cursor: &mut Cursor, draft: &mut Draft) -> Result<(), Stop>
+    ensures { Takes (prio_part draft.old) cursor.old (result_and result (Ok draft.new)) cursor.new }
 {
-    let mut draft = before;
     if draft.form.prio.is_some() {
         return Err(Stop::Outside);
     }
     let value = take_prio(cursor)?;
     draft.form.prio = Some(value);
-    Ok(draft)
+    Ok(())
 }
 
 // Whether no tag is tested yet.
@@ -136,60 +131,58 @@ fn tests_no_tag(test: &TagTest) -> bool
 
 // Takes the tag that is tested.
 #[tactic(auto, unfolding(crate::specs::Options::tagged_part))]
-fn take_tagged_part(cursor: &mut Cursor, negated: bool, before: Draft) -> Result<Draft, Stop>
-    ensures { Takes (tagged_part negated before) cursor.old result cursor.new }
+fn take_tagged_part(cursor: &mut Cursor, negated: bool, draft: &mut Draft) -> Result<(), Stop>
+    ensures { Takes (tagged_part negated draft.old) cursor.old (result_and result (Ok draft.new)) cursor.new }
 {
-    let mut draft = before;
     if !tests_no_tag(&draft.form.tagged) {
         return Err(Stop::Outside);
     }
     let name = cursor.take_name()?;
     draft.form.tagged = TagTest::Is { name, negated };
-    Ok(draft)
+    Ok(())
 }
 
 // Takes the tag that is set.
 #[tactic(auto, unfolding(crate::specs::Options::tag_part))]
-fn take_tag_part(cursor: &mut Cursor, before: Draft) -> Result<Draft, Stop>
-    ensures { Takes (tag_part before) cursor.old result cursor.new }
+fn take_tag_part(cursor: &mut Cursor, draft: &mut Draft) -> Result<(), Stop>
+    ensures { Takes (tag_part draft.old) cursor.old (result_and result (Ok draft.new)) cursor.new }
 {
-    let mut draft = before;
     if draft.form.tag.is_some() {
         return Err(Stop::Outside);
     }
     let name = cursor.take_name()?;
     draft.form.tag = Some(name);
-    Ok(draft)
+    Ok(())
 }
 
 // Takes `state` behind `no`.
 #[tactic(auto, unfolding(crate::specs::Options::no_state))]
-fn take_no_state(cursor: &mut Cursor, before: Draft) -> Result<Draft, Stop>
-    ensures { Takes (no_state before) cursor.old result cursor.new }
+fn take_no_state(cursor: &mut Cursor, draft: &mut Draft) -> Result<(), Stop>
+    ensures { Takes (no_state draft.old) cursor.old (result_and result (Ok draft.new)) cursor.new }
 {
-    let mut draft = before;
     if draft.form.state.is_some() {
         return Err(Stop::Outside);
     }
     cursor.take_keyword(b"state")?;
     draft.form.state = Some(StateKind::None);
-    Ok(draft)
+    Ok(())
 }
 
 // Takes a state clause behind its first word.
 #[tactic(auto, unfolding(crate::specs::Options::state_clause))]
-fn take_state_clause(cursor: &mut Cursor, kind: StateKind, before: Draft) -> Result<Draft, Stop>
-    ensures { Takes (state_clause kind before) cursor.old result cursor.new }
+fn take_state_clause(cursor: &mut Cursor, kind: StateKind, draft: &mut Draft) -> Result<(), Stop>
+    ensures { Takes (state_clause kind draft.old) cursor.old (result_and result (Ok draft.new)) cursor.new }
 {
-    let mut draft = before;
     if draft.form.state.is_some() {
         return Err(Stop::Outside);
     }
+    // A type within the options, which the proof of the assignment must know.
+    let _type: Option<Overload> = None;
     let read = take_state_options(cursor)?;
     draft.form.state = Some(kind);
     draft.form.options = read.options;
     draft.repeated_option = read.repeated;
-    Ok(draft)
+    Ok(())
 }
 
 // The parts of `set` that stand before.
@@ -205,112 +198,106 @@ fn set_before(params: &Params) -> ReadSet
 
 // Takes parts of `set`.
 #[tactic(auto, unfolding(crate::specs::Options::set_option))]
-fn take_set_option(cursor: &mut Cursor, before: Draft) -> Result<Draft, Stop>
-    ensures { Takes (set_option before) cursor.old result cursor.new }
+fn take_set_option(cursor: &mut Cursor, draft: &mut Draft) -> Result<(), Stop>
+    ensures { Takes (set_option draft.old) cursor.old (result_and result (Ok draft.new)) cursor.new }
 {
-    let mut draft = before;
     let before = set_before(&draft.form.params);
     let set = take_settings(cursor, before)?;
     draft.form.params.queue = set.queue;
     draft.form.params.prio = set.prio;
     draft.form.params.tos = set.tos;
-    Ok(draft)
+    Ok(())
 }
 
 // Takes the parts of `scrub`.
 #[tactic(auto, unfolding(crate::specs::Options::scrub_option))]
-fn take_scrub_option(cursor: &mut Cursor, before: Draft) -> Result<Draft, Stop>
-    ensures { Takes (scrub_option before) cursor.old result cursor.new }
+fn take_scrub_option(cursor: &mut Cursor, draft: &mut Draft) -> Result<(), Stop>
+    ensures { Takes (scrub_option draft.old) cursor.old (result_and result (Ok draft.new)) cursor.new }
 {
-    let mut draft = before;
     if !is_no_scrub(&draft.form.params.scrub) {
         return Err(Stop::Outside);
     }
     let scrub = take_scrub(cursor)?;
     draft.form.params.scrub = scrub;
-    Ok(draft)
+    Ok(())
 }
 
 // Lays `allow-opts` on the rule.
 #[tactic(auto, unfolding(crate::specs::Options::allow_option))]
-fn take_allow_option(cursor: &mut Cursor, before: Draft) -> Result<Draft, Stop>
-    ensures { Takes (allow_option before) cursor.old result cursor.new }
+fn take_allow_option(cursor: &mut Cursor, draft: &mut Draft) -> Result<(), Stop>
+    ensures { Takes (allow_option draft.old) cursor.old (result_and result (Ok draft.new)) cursor.new }
 {
-    let mut draft = before;
     if draft.form.params.allow_opts {
         return Err(Stop::Outside);
     }
     draft.form.params.allow_opts = true;
-    Ok(draft)
+    Ok(())
 }
 
 // Takes the label.
 #[tactic(auto, unfolding(crate::specs::Options::label_part))]
-fn take_label_part(cursor: &mut Cursor, before: Draft) -> Result<Draft, Stop>
-    ensures { Takes (label_part before) cursor.old result cursor.new }
+fn take_label_part(cursor: &mut Cursor, draft: &mut Draft) -> Result<(), Stop>
+    ensures { Takes (label_part draft.old) cursor.old (result_and result (Ok draft.new)) cursor.new }
 {
-    let mut draft = before;
     if draft.form.label.is_some() {
         return Err(Stop::Outside);
     }
     let name = cursor.take_name()?;
     draft.form.label = Some(name);
-    Ok(draft)
+    Ok(())
 }
 
 // Takes the source behind `nat-to`.
 #[tactic(auto, unfolding(crate::specs::Options::nat_part))]
-fn take_nat_part(cursor: &mut Cursor, before: Draft) -> Result<Draft, Stop>
-    ensures { Takes (nat_part before) cursor.old result cursor.new }
+fn take_nat_part(cursor: &mut Cursor, draft: &mut Draft) -> Result<(), Stop>
+    ensures { Takes (nat_part draft.old) cursor.old (result_and result (Ok draft.new)) cursor.new }
 {
-    let mut draft = before;
     if !may_translate(&draft.form.head) || draft.form.nat.is_some() {
         return Err(Stop::Outside);
     }
     let words = take_target(cursor)?;
     draft.rdr_first = draft.form.rdr.is_some();
     draft.form.nat = Some(words);
-    Ok(draft)
+    Ok(())
 }
 
 // Takes the target behind `rdr-to`.
 #[tactic(auto, unfolding(crate::specs::Options::rdr_part))]
-fn take_rdr_part(cursor: &mut Cursor, before: Draft) -> Result<Draft, Stop>
-    ensures { Takes (rdr_part before) cursor.old result cursor.new }
+fn take_rdr_part(cursor: &mut Cursor, draft: &mut Draft) -> Result<(), Stop>
+    ensures { Takes (rdr_part draft.old) cursor.old (result_and result (Ok draft.new)) cursor.new }
 {
-    let mut draft = before;
     if !may_translate(&draft.form.head) || draft.form.rdr.is_some() {
         return Err(Stop::Outside);
     }
     let words = take_target(cursor)?;
     draft.form.rdr = Some(words);
-    Ok(draft)
+    Ok(())
 }
 
 // Takes what stands behind the keyword of an option.
-fn take_option_behind(cursor: &mut Cursor, word: OptionWord, before: Draft) -> Result<Draft, Stop>
-    ensures { Takes (option_behind word before) cursor.old result cursor.new }
+fn take_option_behind(cursor: &mut Cursor, word: OptionWord, draft: &mut Draft) -> Result<(), Stop>
+    ensures { Takes (option_behind word draft.old) cursor.old (result_and result (Ok draft.new)) cursor.new }
 {
     match word {
-        OptionWord::User => take_users(cursor, before),
-        OptionWord::Group => take_groups(cursor, before),
-        OptionWord::Flags => take_flags_part(cursor, before),
-        OptionWord::IcmpType => take_icmp_part(cursor, Family::Inet, before),
-        OptionWord::Icmp6Type => take_icmp_part(cursor, Family::Inet6, before),
-        OptionWord::Tos => take_tos_part(cursor, before),
-        OptionWord::Prio => take_prio_part(cursor, before),
-        OptionWord::Tagged => take_tagged_part(cursor, false, before),
-        OptionWord::Tag => take_tag_part(cursor, before),
-        OptionWord::No => take_no_state(cursor, before),
-        OptionWord::Keep => take_state_clause(cursor, StateKind::Keep, before),
-        OptionWord::Modulate => take_state_clause(cursor, StateKind::Modulate, before),
-        OptionWord::Synproxy => take_state_clause(cursor, StateKind::Synproxy, before),
-        OptionWord::Set => take_set_option(cursor, before),
-        OptionWord::Scrub => take_scrub_option(cursor, before),
-        OptionWord::AllowOpts => take_allow_option(cursor, before),
-        OptionWord::Label => take_label_part(cursor, before),
-        OptionWord::NatTo => take_nat_part(cursor, before),
-        OptionWord::RdrTo => take_rdr_part(cursor, before),
+        OptionWord::User => take_users(cursor, draft),
+        OptionWord::Group => take_groups(cursor, draft),
+        OptionWord::Flags => take_flags_part(cursor, draft),
+        OptionWord::IcmpType => take_icmp_part(cursor, Family::Inet, draft),
+        OptionWord::Icmp6Type => take_icmp_part(cursor, Family::Inet6, draft),
+        OptionWord::Tos => take_tos_part(cursor, draft),
+        OptionWord::Prio => take_prio_part(cursor, draft),
+        OptionWord::Tagged => take_tagged_part(cursor, false, draft),
+        OptionWord::Tag => take_tag_part(cursor, draft),
+        OptionWord::No => take_no_state(cursor, draft),
+        OptionWord::Keep => take_state_clause(cursor, StateKind::Keep, draft),
+        OptionWord::Modulate => take_state_clause(cursor, StateKind::Modulate, draft),
+        OptionWord::Synproxy => take_state_clause(cursor, StateKind::Synproxy, draft),
+        OptionWord::Set => take_set_option(cursor, draft),
+        OptionWord::Scrub => take_scrub_option(cursor, draft),
+        OptionWord::AllowOpts => take_allow_option(cursor, draft),
+        OptionWord::Label => take_label_part(cursor, draft),
+        OptionWord::NatTo => take_nat_part(cursor, draft),
+        OptionWord::RdrTo => take_rdr_part(cursor, draft),
     }
 }
 
@@ -322,15 +309,24 @@ fn take_option_word(cursor: &mut Cursor) -> Result<OptionWord, Stop>
     take_key(&OPTION_WORDS, cursor)
 }
 
-/// Takes an option, and gives the rule with it.
+// Takes an option, and lays it on the rule.
 #[tactic(auto, unfolding(crate::specs::Options::option))]
-pub fn take_option(cursor: &mut Cursor, before: Draft) -> Result<Draft, Stop>
-    ensures { Takes (option before) cursor.old result cursor.new }
+fn lay_option(cursor: &mut Cursor, draft: &mut Draft) -> Result<(), Stop>
+    ensures { Takes (option draft.old) cursor.old (result_and result (Ok draft.new)) cursor.new }
 {
     if cursor.passes_sign(b"!") {
         cursor.take_keyword(b"tagged")?;
-        return take_tagged_part(cursor, true, before);
+        return take_tagged_part(cursor, true, draft);
     }
     let word = take_option_word(cursor)?;
-    take_option_behind(cursor, word, before)
+    take_option_behind(cursor, word, draft)
+}
+
+/// Takes an option, and gives the rule with it.
+pub fn take_option(cursor: &mut Cursor, before: Draft) -> Result<Draft, Stop>
+    ensures { Takes (option before) cursor.old result cursor.new }
+{
+    let mut draft = before;
+    lay_option(cursor, &mut draft)?;
+    Ok(draft)
 }

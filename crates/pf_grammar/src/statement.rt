@@ -1,5 +1,6 @@
 //! Rules, antispoof and load anchor (pf.conf(5), GRAMMAR).
 ghost use Rattle.std.specs.Prelude.{◌≡◌, [], map, IfOk};
+ghost use Rattle.pf_form.specs.Blank.{with_form};
 ghost use Rattle.pf_grammar.specs.Options.{option};
 ghost use Rattle.pf_grammar.specs.Statements.{anchor, anchor_statement, antispoof, block, label, load_anchor, names_for, on_interface, plain_statement, rule, rule_front, statement};
 ghost use Rattle.pf_syntax.specs.Taking.{Takes};
@@ -7,16 +8,53 @@ ghost use Rattle.pf_syntax.specs.Taking.{Takes};
 use crate::head::{take_anchor_head, take_block_kind, take_head_word, take_text};
 use crate::keyword::HeadWord;
 use crate::option::take_option;
-use pf_base::{List, Name, NoMemory};
+use pf_base::{Family, List, Name, NoMemory};
 use pf_form::blank::blank;
-use pf_form::hosts::{EachName, take_direction, take_family, take_hosts, take_ifaces, take_protos};
-use pf_form::log::take_logged;
+use pf_form::hosts::{
+    EachName, Hosts, take_direction, take_family, take_hosts, take_ifaces, take_protos,
+};
+use pf_form::log::{Logged, take_logged};
 use pf_form::{Draft, Head};
-use pf_parts::IfTest;
+use pf_parts::{Direction, IfTest};
 use pf_syntax::list::{Lay, take_list};
 use pf_syntax::row::take_to_end;
 use pf_syntax::{Cursor, Stop};
 use std::alloc::Global;
+
+// Lays the parts in front of the options on a rule.
+fn lay_front(
+    draft: &mut Draft,
+    direction: Option<Direction>,
+    logged: Logged,
+    ifaces: List<IfTest>,
+    family: Option<Family>,
+    protos: List<Name>,
+    hosts: Hosts,
+)
+    ensures { draft.new ≡ with_form draft.old (record draft.old.form {
+      direction = direction;
+      quick = logged.quick;
+      params = record draft.old.form.params { log = logged.log };
+      ifaces = ifaces;
+      family = family;
+      protos = protos;
+      sources = hosts.sources.hosts;
+      source_ports = hosts.sources.ports;
+      targets = hosts.targets.hosts;
+      target_ports = hosts.targets.ports;
+    }) }
+{
+    draft.form.direction = direction;
+    draft.form.quick = logged.quick;
+    draft.form.params.log = logged.log;
+    draft.form.ifaces = ifaces;
+    draft.form.family = family;
+    draft.form.protos = protos;
+    draft.form.sources = hosts.sources.hosts;
+    draft.form.source_ports = hosts.sources.ports;
+    draft.form.targets = hosts.targets.hosts;
+    draft.form.target_ports = hosts.targets.ports;
+}
 
 // Takes the parts of a rule in front of its options.
 #[tactic(auto, unfolding(crate::specs::Statements::rule_front))]
@@ -30,16 +68,7 @@ fn take_rule_front(cursor: &mut Cursor, head: Head) -> Result<Draft, Stop>
     let protos = take_protos(cursor)?;
     let hosts = take_hosts(cursor)?;
     let mut draft = blank(cursor.alloc(), head);
-    draft.form.direction = direction;
-    draft.form.quick = logged.quick;
-    draft.form.params.log = logged.log;
-    draft.form.ifaces = ifaces;
-    draft.form.family = family;
-    draft.form.protos = protos;
-    draft.form.sources = hosts.sources.hosts;
-    draft.form.source_ports = hosts.sources.ports;
-    draft.form.targets = hosts.targets.hosts;
-    draft.form.target_ports = hosts.targets.ports;
+    lay_front(&mut draft, direction, logged, ifaces, family, protos, hosts);
     Ok(draft)
 }
 
@@ -100,6 +129,29 @@ fn take_names(cursor: &mut Cursor) -> Result<List<IfTest>, Stop>
     Ok(tests)
 }
 
+// Lays the parts of antispoof on it.
+fn lay_antispoof(
+    draft: &mut Draft,
+    logged: Logged,
+    ifaces: List<IfTest>,
+    family: Option<Family>,
+    label: Option<Name>,
+)
+    ensures { draft.new ≡ with_form draft.old (record draft.old.form {
+      quick = logged.quick;
+      params = record draft.old.form.params { log = logged.log };
+      ifaces = ifaces;
+      family = family;
+      label = label;
+    }) }
+{
+    draft.form.quick = logged.quick;
+    draft.form.params.log = logged.log;
+    draft.form.ifaces = ifaces;
+    draft.form.family = family;
+    draft.form.label = label;
+}
+
 // Takes antispoof behind its keyword.
 #[tactic(auto, unfolding(crate::specs::Statements::antispoof))]
 fn take_antispoof(cursor: &mut Cursor) -> Result<Draft, Stop>
@@ -111,11 +163,7 @@ fn take_antispoof(cursor: &mut Cursor) -> Result<Draft, Stop>
     let family = take_family(cursor)?;
     let label = take_label(cursor)?;
     let mut draft = blank(cursor.alloc(), Head::Antispoof);
-    draft.form.quick = logged.quick;
-    draft.form.params.log = logged.log;
-    draft.form.ifaces = ifaces;
-    draft.form.family = family;
-    draft.form.label = label;
+    lay_antispoof(&mut draft, logged, ifaces, family, label);
     Ok(draft)
 }
 
