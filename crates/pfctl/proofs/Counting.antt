@@ -1,20 +1,27 @@
 -- Records that are counted, and what a generated run comes to.
-use Rattle.std.proofs.Common.{◌≡◌, ℕ, codes, decimal, ◌+◌, Bool, true, false, cond, List, [], ◌∷◌, ◌++◌, length, None, Some, Option, Result, Ok, Err, refl, sym, ap, ◌∙◌, subst, suc, arith, append-nil, add_assoc, zero-add, add-zero}
+use Rattle.std.proofs.Common.{◌≡◌, ℕ, codes, decimal, ◌+◌, ◌<◌, ◌^◌, Bool, true, false, cond, List, [], ◌∷◌, ◌++◌, length, Some, Option, Result, refl, sym, ap, ◌∙◌, subst, suc, arith, append-nil, add_assoc, zero-add, add-zero}
 use Rattle.std.specs.List.{filter}
+use Rattle.std.proofs.lemmas.List.FromFn.{length-map-range_with_len}
 use Rattle.std.proofs.lemmas.List.{nil_from_length}
-use Rattle.pf_gen.specs.Texts.{config_of, records_of}
+use Rattle.pf_base.specs.declared.kind.Level.{Level}
+use Rattle.pf_base.specs.declared.kind.Level.TheVariants as levels
+use Rattle.pf_gen.specs.Draws.{after}
+use Rattle.pf_gen.specs.Texts.{config_of, record_at, records_from, records_of}
+use Rattle.pf_genload.specs.Generated.{generated_disk}
 use Rattle.pf_record.specs.Record.{IsReadAs}
 use Rattle.pf_record.specs.declared.field.PacketFault.{PacketFault}
 use Rattle.pf_rule.specs.declared.packet.Packet.{Packet}
 use Rattle.pf_rule.specs.declared.walk.Answer.{Answer}
-use Rattle.pf_runs.specs.Runs.{Answers, DoesOneThing, Stepped, reply_text}
+use Rattle.pf_runs.specs.Runs.{Answers, Stepped, reply_text}
 use Rattle.pf_source.specs.Disk.{Disk, without}
 use Rattle.pf_source.specs.Told.{FilesTold, Held, Told, file_of}
 use Rattle.pf_engine.specs.Answering.{Adds}
 use Rattle.pf_engine.specs.Step.{step}
 use Rattle.pf_state.specs.Machine.{empty_machine}
+use Rattle.pf_state.specs.Rulesets.{count_rules}
 use Rattle.pf_state.specs.declared.machine.Machine.{Machine}
-use Rattle.pfctl.specs.Generating.{AreReadAs, Counted, Generates, GeneratesBytes, IsJudged, Summarises, TellsOf, blocks, generated_disk, is_answered, load_generated, one_if, passes, summary_line}
+use Rattle.pfctl.specs.Generating.{AreReadAs, Counted, GeneratesBytes, IsJudged, Summed, blocks, is_answered, load_line, one_if, passes, summary_line}
+use Rattle.pfctl.specs.declared.generating.Summary.{Summary}
 
 pub counted_none : (which : Answer → Bool) (machine : Machine) → Counted which machine [] 0
 counted_none which machine = record { reads = []; are = tt; is = refl }
@@ -42,7 +49,7 @@ counted_more which machine text texts is count judged counted = record {
 abbrev pub ReadsOneWay : Type 0
 ReadsOneWay = (text : List ℕ) (a b : Result Packet PacketFault) → IsReadAs text a → IsReadAs text b → a ≡ b
 
-same_reads : ReadsOneWay → (texts : List (List ℕ)) (a b : List (Result Packet PacketFault)) → AreReadAs texts a → AreReadAs texts b → a ≡ b
+pub same_reads : ReadsOneWay → (texts : List (List ℕ)) (a b : List (Result Packet PacketFault)) → AreReadAs texts a → AreReadAs texts b → a ≡ b
 same_reads one [] [] [] h k = refl
 same_reads one [] [] (y ∷ b) h k = absurd k
 same_reads one [] (x ∷ a) b h k = absurd h
@@ -53,29 +60,6 @@ same_reads one (text ∷ texts) (x ∷ a) (y ∷ b) h k =
     let rest : a ≡ b = same_reads one texts a b h.1 k.1 in
     ap (λ r. r ∷ a) first ∙ ap (λ rs. y ∷ rs) rest
 
-same_count : ReadsOneWay → (which : Answer → Bool) (machine : Machine) (texts : List (List ℕ)) (m n : ℕ) → Counted which machine texts m → Counted which machine texts n → m ≡ n
-same_count one which machine texts m n h k =
-    h.is ∙ (ap (λ reads. length (filter (is_answered which machine) reads)) (same_reads one texts h.reads k.reads h.are k.are) ∙ sym k.is)
-
-same_summary : ReadsOneWay → (number : ℕ) (machine : Machine) (a b : List (List ℕ)) → Summarises number machine a → Summarises number machine b → a ≡ b
-same_summary one number machine a b h k =
-    let passed : h.passed ≡ k.passed = same_count one passes machine (records_of number) h.passed k.passed h.passes_counted k.passes_counted in
-    let blocked : h.blocked ≡ k.blocked = same_count one blocks machine (records_of number) h.blocked k.blocked h.blocks_counted k.blocks_counted in
-    h.is ∙ (ap (λ n. summary_line number n h.blocked ∷ []) passed ∙ (ap (λ n. summary_line number k.passed n ∷ []) blocked ∙ sym k.is))
-
-same_told : ReadsOneWay → (number : ℕ) (loaded : Stepped Machine) (refused : Bool) (a b : List (List ℕ)) → TellsOf number loaded refused a → TellsOf number loaded refused b → a ≡ b
-same_told one number loaded true a b h k = h ∙ sym k
-same_told one number loaded false a b h k = same_summary one number loaded.machine a b h k
-
--- a number comes to one thing
-pub one_thing : ReadsOneWay → ((disk : Disk) → DoesOneThing step disk) → (number : ℕ) (a b : List (List ℕ)) (c d : Bool) → Generates number a c → Generates number b d → (a ≡ b) × (c ≡ d)
-one_thing one does number a b c d h k =
-    let loaded : h.loaded ≡ k.loaded = does (generated_disk number) empty_machine load_generated h.loaded k.loaded h.loads k.loads in
-    let refused : c ≡ d = h.refused_is ∙ (ap (λ (s : Stepped Machine). s.refused) loaded ∙ sym k.refused_is) in
-    let told : TellsOf number k.loaded c a = subst (λ (s : Stepped Machine). TellsOf number s c a) loaded h.tells in
-    let told' : TellsOf number k.loaded d a = subst (λ (r : Bool). TellsOf number k.loaded r a) refused told in
-    (same_told one number k.loaded d a b told' k.tells, refused)
-
 -- over steady files a line was executed without an outage
 pub steady_step : (disk : Disk) (line : List ℕ) (before after : Machine) (files files' : FilesTold) (reply : List ℕ) (refused : Bool) → files.steady ≡ true → (h : Answers step disk line before files after files' reply refused) → step disk before line h.does
 steady_step disk line before after files files' reply refused steady h =
@@ -85,71 +69,72 @@ steady_step disk line before after files files' reply refused steady h =
 abbrev pub generated_files : List ℕ → FilesTold
 generated_files config = record { held = Some (record { files = record { name = codes "generated"; bytes = config } ∷ []; sure = true }); steady = true; faults = 0; failed = Some [] }
 
--- the configuration was loaded, or refused
-pub record Loaded (number : ℕ) (after : Machine) (bytes : List ℕ) (refused : Bool) : Type 0 where
+-- the configuration was loaded at a level
+pub record Loaded (number : ℕ) (level : Level) (after : Machine) (bytes : List ℕ) (refused : Bool) : Type 0 where
   pub does : Stepped Machine
-  pub steps : step (generated_disk number) empty_machine load_generated does
+  pub steps : step (generated_disk number) empty_machine (load_line level) does
   pub machine_is : after ≡ does.machine
   pub bytes_are : bytes ≡ reply_text does.reply
   pub refused_is : refused ≡ does.refused
 
-pub loaded_by : (number : ℕ) (files files' : FilesTold) (before after : Machine) (old bytes : List ℕ) (refused : Bool) → files ≡ generated_files (config_of number) → before ≡ empty_machine → old ≡ [] → Told files.held (λ held. Adds old bytes (λ reply. Answers step (file_of held) load_generated before files after files' reply refused)) → Loaded number after bytes refused
-loaded_by number files files' before after old bytes refused are empty none told =
+pub loaded_by : (number : ℕ) (level : Level) (files files' : FilesTold) (before after : Machine) (old bytes : List ℕ) (refused : Bool) → files ≡ generated_files (config_of number) → before ≡ empty_machine → old ≡ [] → Told files.held (λ held. Adds old bytes (λ reply. Answers step (file_of held) (load_line level) before files after files' reply refused)) → Loaded number level after bytes refused
+loaded_by number level files files' before after old bytes refused are empty none told =
     let held : Held = record { files = record { name = codes "generated"; bytes = config_of number } ∷ []; sure = true } in
     let added = told.at held (ap (λ (f : FilesTold). f.held) are) in
-    let answers : Answers step (file_of held) load_generated empty_machine files after files' added.bytes refused =
-    subst (λ (machine : Machine). Answers step (file_of held) load_generated machine files after files' added.bytes refused) empty added.is in
+    let answers : Answers step (file_of held) (load_line level) empty_machine files after files' added.bytes refused =
+    subst (λ (machine : Machine). Answers step (file_of held) (load_line level) machine files after files' added.bytes refused) empty added.is in
     record {
       does = answers.does;
-      steps = steady_step (file_of held) load_generated empty_machine after files files' added.bytes refused (ap (λ (f : FilesTold). f.steady) are) answers;
+      steps = steady_step (file_of held) (load_line level) empty_machine after files files' added.bytes refused (ap (λ (f : FilesTold). f.steady) are) answers;
       machine_is = answers.machine;
       bytes_are = added.added ∙ (ap (λ (text : List ℕ). text ++ added.bytes) none ∙ answers.replies);
       refused_is = answers.refuses;
     }
 
-told_refused : (number : ℕ) (does : Stepped Machine) (refused : Bool) → refused ≡ true → TellsOf number does refused does.reply
-told_refused number does true is = refl
-told_refused number does false is = cc
+abbrev pub LoadsDone : Type 0
+LoadsDone = (number : ℕ) (level : Level) (does : Stepped Machine) → step (generated_disk number) empty_machine (load_line level) does → does.refused ≡ false
 
-told_done : (number : ℕ) (does : Stepped Machine) (refused : Bool) (reply : List (List ℕ)) → refused ≡ false → Summarises number does.machine reply → TellsOf number does refused reply
-told_done number does true reply is h = cc
-told_done number does false reply is h = h
+abbrev pub RulesCounted : Type 0
+RulesCounted = (number : ℕ) (level : Level) (does : Stepped Machine) → step (generated_disk number) empty_machine (load_line level) does → count_rules does.machine.rulesets ≡ 2001
 
-pub refused_bytes : (number : ℕ) (after : Machine) (bytes : List ℕ) (refused : Bool) → refused ≡ true → Loaded number after bytes refused → GeneratesBytes number bytes refused
-refused_bytes number after bytes refused is h = record {
-  reply = h.does.reply;
-  generates = record { loaded = h.does; loads = h.steps; refused_is = h.refused_is; tells = told_refused number h.does refused is };
-  are = h.bytes_are;
+pub summed_by : LoadsDone → RulesCounted → (number : ℕ) (level : Level) (after : Machine) (bytes : List ℕ) (refused : Bool) (pass block : ℕ) → Loaded number level after bytes refused
+    → Counted passes after (records_of number) pass → Counted blocks after (records_of number) block → Summed number level (record { rules = 2001; pass = pass; block = block })
+summed_by done rules number level after bytes refused pass block h passed blocked = record {
+  loaded = h.does;
+  loads = h.steps;
+  done = done number level h.does h.steps;
+  rules = sym (rules number level h.does h.steps);
+  passed = subst (λ (machine : Machine). Counted passes machine (records_of number) pass) h.machine_is passed;
+  blocked = subst (λ (machine : Machine). Counted blocks machine (records_of number) block) h.machine_is blocked;
 }
 
-pub done_bytes : (number : ℕ) (after : Machine) (bytes summary : List ℕ) (refused : Bool) (passed blocked : ℕ) → refused ≡ false → Loaded number after bytes refused → Counted passes after (records_of number) passed → Counted blocks after (records_of number) blocked → summary ≡ reply_text (summary_line number passed blocked ∷ []) → GeneratesBytes number summary refused
-done_bytes number after bytes summary refused passed blocked is h pass block are = record {
-  reply = summary_line number passed blocked ∷ [];
-  generates = record {
-    loaded = h.does;
-    loads = h.steps;
-    refused_is = h.refused_is;
-    tells = told_done number h.does refused (summary_line number passed blocked ∷ []) is (record {
-      passed = passed;
-      blocked = blocked;
-      passes_counted = subst (λ (machine : Machine). Counted passes machine (records_of number) passed) h.machine_is pass;
-      blocks_counted = subst (λ (machine : Machine). Counted blocks machine (records_of number) blocked) h.machine_is block;
-      is = refl;
-    });
-  };
-  are = are;
-}
+many_records : (start many : ℕ) → length (records_from start many) ≡ many
+unfolding records_from
+many_records start many = length-map-range_with_len (record_at start) 0 many
+
+pub few_records : (number : ℕ) → length (records_of number) < 2 ^ 32
+few_records number = let many = many_records (after number 14000) 5000 in omega arith
 
 -- pieces that were appended to a text, one after another
-joined : (o a b c d e f g : List ℕ) → ((((((o ++ a) ++ b) ++ c) ++ d) ++ e) ++ f) ++ g ≡ o ++ ((((((a ++ b) ++ c) ++ d) ++ e) ++ f) ++ g)
-joined [] a b c d e f g = refl
-joined (x ∷ o) a b c d e f g = ap (λ rest. x ∷ rest) (joined o a b c d e f g)
+joined : (o a b c d e f g h k : List ℕ) → ((((((((o ++ a) ++ b) ++ c) ++ d) ++ e) ++ f) ++ g) ++ h) ++ k ≡ o ++ ((((((((a ++ b) ++ c) ++ d) ++ e) ++ f) ++ g) ++ h) ++ k)
+joined [] a b c d e f g h k = refl
+joined (x ∷ o) a b c d e f g h k = ap (λ rest. x ∷ rest) (joined o a b c d e f g h k)
 
 -- the summary, piece by piece
-pub summary_joined : (o : List ℕ) (number passed blocked : ℕ) → ((((((o ++ codes "gen ") ++ decimal number) ++ codes " rules=2001 pass=") ++ decimal passed) ++ codes " block=") ++ decimal blocked) ++ 10 ∷ [] ≡ o ++ reply_text (summary_line number passed blocked ∷ [])
-summary_joined o number passed blocked =
-    joined o (codes "gen ") (decimal number) (codes " rules=2001 pass=") (decimal passed) (codes " block=") (decimal blocked) (10 ∷ [])
-    ∙ ap (λ text. o ++ text) (sym (append-nil (summary_line number passed blocked ++ 10 ∷ [])))
+pub summary_joined : (o : List ℕ) (number : ℕ) (summary : Summary)
+    → ((((((((o ++ codes "gen ") ++ decimal number) ++ codes " rules=") ++ decimal summary.rules) ++ codes " pass=") ++ decimal summary.pass) ++ codes " block=") ++ decimal summary.block) ++ 10 ∷ []
+    ≡ o ++ reply_text (summary_line number summary ∷ [])
+summary_joined o number summary =
+    joined o (codes "gen ") (decimal number) (codes " rules=") (decimal summary.rules) (codes " pass=") (decimal summary.pass) (codes " block=") (decimal summary.block) (10 ∷ [])
+    ∙ ap (λ text. o ++ text) (sym (append-nil (summary_line number summary ++ 10 ∷ [])))
+
+-- the line of a summary is the reply
+pub bytes_of : (number : ℕ) (summary : Summary) (old bytes : List ℕ) → Summed number levels.Basic summary → old ≡ [] → bytes ≡ old ++ reply_text (summary_line number summary ∷ []) → GeneratesBytes number bytes
+bytes_of number summary old bytes sums none are = record {
+  reply = summary_line number summary ∷ [];
+  generates = record { summary = summary; sums = sums; is = refl };
+  are = are ∙ ap (λ (text : List ℕ). text ++ reply_text (summary_line number summary ∷ [])) none;
+}
 
 -- no record is left
 pub counted_to_end : (which : Answer → Bool) (machine : Machine) (records left : List (List ℕ)) (count : ℕ) → length left ≡ 0 → ((n : ℕ) → Counted which machine left n → Counted which machine records (count + n)) → Counted which machine records count

@@ -1,5 +1,6 @@
 pub mod Counting
 pub mod Feeding
+pub mod Generated
 pub mod Inputs
 pub mod Programs
 pub mod Sessions

@@ -1,7 +1,6 @@
 -- What a generated run comes to is written, or the run stops there.
-use Rattle.std.proofs.Common.{◌≡◌, ℕ, Bool, List, Result, Ok, Err, refl, ap, ◌∙◌, subst}
+use Rattle.std.proofs.Common.{ℕ, List, Err, refl, ap, ◌∙◌, subst}
 use Rattle.std.specs.Io.KnownBytes.{Appends}
-use Rattle.pf_runs.specs.Runs.{pieces_of, reply_text}
 use Rattle.pf_source.specs.Causes.{CountsOn}
 use Rattle.pf_source.specs.KnownLaws.{Keeps-same}
 use Rattle.pf_source.specs.Told.{FilesTold, SinkTold, SourceTold}
@@ -12,9 +11,9 @@ use Rattle.pfctl.specs.Generating.{GeneratesBytes}
 use Rattle.pfctl.specs.Program.{HasWriteCause, MeansGenerated, Summarised, outside}
 use Rattle.pfctl.proofs.Sessions.{one_piece}
 
-module _ (number : ℕ) (files : FilesTold) (source : SourceTold) (old new : SinkTold) (bytes : List ℕ) (refused : Bool) (h : GeneratesBytes number bytes refused) where
+module _ (number : ℕ) (files : FilesTold) (source : SourceTold) (old new : SinkTold) (bytes : List ℕ) (h : GeneratesBytes number bytes) where
   -- it was written whole
-  pub whole_summary : CountsOn (count_pieces bytes) old.calls new.calls → Appends old.written new.written bytes → Summarised number refused (outside files source old) (outside files source new)
+  pub whole_summary : CountsOn (count_pieces bytes) old.calls new.calls → Appends old.written new.written bytes → Summarised number (outside files source old) (outside files source new)
   whole_summary writes written = record {
     unread = record { files = refl; source = refl };
     reply = h.reply;
@@ -28,7 +27,6 @@ module _ (number : ℕ) (files : FilesTold) (source : SourceTold) (old new : Sin
   cut_summary stop.WriteFault writes sends = record {
     unread = record { files = refl; source = refl };
     reply = h.reply;
-    refused = refused;
     generates = h.generates;
     written = subst (λ (text : List ℕ). Sends {X = Unit {0}} old new text (Err stop.WriteFault)) h.are sends;
     writes = writes;

@@ -1,7 +1,10 @@
 -- -g: a generated configuration is loaded into the empty machine, and generated records are answered (pfctl(8)).
 use Rattle.std.specs.Prelude.{◌≡◌, ℕ, Bool, true, false, not, ◌&&◌, List, [], ◌∷◌, ◌++◌, length, codes, decimal, Result, Ok, Err}
 use Rattle.std.specs.List.{filter}
-use Rattle.pf_gen.specs.Texts.{config_of, records_of}
+use Rattle.pf_base.specs.declared.kind.Level.{Level}
+use Rattle.pf_base.specs.declared.kind.Level.TheVariants as levels
+use Rattle.pf_gen.specs.Texts.{records_of}
+use Rattle.pf_genload.specs.Generated.{generated_disk}
 use Rattle.pf_record.specs.Record.{IsReadAs}
 use Rattle.pf_record.specs.declared.field.PacketFault.{PacketFault}
 use Rattle.pf_rule.specs.declared.effect.Action.{Action}
@@ -9,12 +12,13 @@ use Rattle.pf_rule.specs.declared.effect.Action.TheVariants as actions
 use Rattle.pf_rule.specs.declared.packet.Packet.{Packet}
 use Rattle.pf_rule.specs.declared.walk.Answer.{Answer}
 use Rattle.pf_runs.specs.Runs.{Stepped, reply_text}
-use Rattle.pf_source.specs.Disk.{Disk}
-use Rattle.pf_source.specs.Told.{file_of}
 use Rattle.pf_engine.specs.Step.{step}
 use Rattle.pf_engine.specs.TestLines.{asked}
+use Rattle.pf_script.specs.Grammar.{level_word}
 use Rattle.pf_state.specs.Machine.{empty_machine}
 use Rattle.pf_state.specs.declared.machine.Machine.{Machine}
+use Rattle.pf_state.specs.Rulesets.{count_rules}
+use Rattle.pfctl.specs.declared.generating.Summary.{Summary}
 use Rattle.pfctl.specs.declared.generating.Verdict.{Verdict}
 use Rattle.pfctl.specs.declared.generating.Verdict.TheVariants.{Passed, Blocked}
 
@@ -59,40 +63,34 @@ pub record Counted (which : Answer → Bool) (machine : Machine) (records : List
   pub are : AreReadAs records reads
   pub is : count ≡ length (filter (is_answered which machine) reads)
 
--- the one file that the generated run reads, and the line that loads it
-abbrev pub generated_disk : ℕ → Disk
-generated_disk number = file_of (record { files = record { name = codes "generated"; bytes = config_of number } ∷ []; sure = true })
+-- the line that loads the one file that the generated run reads
+abbrev pub load_line : Level → List ℕ
+load_line level = codes "load -o " ++ level_word level ++ codes " generated"
 
-abbrev pub load_generated : List ℕ
-load_generated = codes "load -o basic generated"
-
-abbrev pub summary_line : ℕ → ℕ → ℕ → List ℕ
-summary_line number passed blocked = codes "gen " ++ decimal number ++ codes " rules=2001 pass=" ++ decimal passed ++ codes " block=" ++ decimal blocked
-
--- the records are answered by this machine, and the answers are counted
-pub record Summarises (number : ℕ) (machine : Machine) (reply : List (List ℕ)) : Type 0 where
-  pub passed : ℕ
-  pub blocked : ℕ
-  pub passes_counted : Counted passes machine (records_of number) passed
-  pub blocks_counted : Counted blocks machine (records_of number) blocked
-  pub is : reply ≡ summary_line number passed blocked ∷ []
-
--- what is told where the load was done; were it refused, that would be told
-abbrev pub TellsOf : ℕ → Stepped Machine → Bool → List (List ℕ) → Type 0
-TellsOf number loaded false reply = Summarises number loaded.machine reply
-TellsOf number loaded true reply = reply ≡ loaded.reply
-
--- What the run of a number comes to: its configuration is loaded into the empty machine, and its records are answered.
-pub record Generates (number : ℕ) (reply : List (List ℕ)) (refused : Bool) : Type 0 where
+-- The configuration of a number is loaded at this level into the empty machine, which is done. Behind it the machine has so many
+-- rules as they are written, and lets so many of the records pass and blocks so many.
+pub record Summed (number : ℕ) (level : Level) (summary : Summary) : Type 0 where
   pub loaded : Stepped Machine
-  pub loads : step (generated_disk number) empty_machine load_generated loaded
-  pub refused_is : refused ≡ loaded.refused
-  pub tells : TellsOf number loaded refused reply
+  pub loads : step (generated_disk number) empty_machine (load_line level) loaded
+  pub done : loaded.refused ≡ false
+  pub rules : summary.rules ≡ count_rules loaded.machine.rulesets
+  pub passed : Counted passes loaded.machine (records_of number) summary.pass
+  pub blocked : Counted blocks loaded.machine (records_of number) summary.block
+
+abbrev pub summary_line : ℕ → Summary → List ℕ
+summary_line number summary =
+    codes "gen " ++ decimal number ++ codes " rules=" ++ decimal summary.rules ++ codes " pass=" ++ decimal summary.pass ++ codes " block=" ++ decimal summary.block
+
+-- what the run of a number comes to: the line of what it comes to at the level `basic`
+pub record Generates (number : ℕ) (reply : List (List ℕ)) : Type 0 where
+  pub summary : Summary
+  pub sums : Summed number levels.Basic summary
+  pub is : reply ≡ summary_line number summary ∷ []
 
 -- the same, by the bytes of the reply
-pub record GeneratesBytes (number : ℕ) (bytes : List ℕ) (refused : Bool) : Type 0 where
+pub record GeneratesBytes (number : ℕ) (bytes : List ℕ) : Type 0 where
   pub reply : List (List ℕ)
-  pub generates : Generates number reply refused
+  pub generates : Generates number reply
   pub are : bytes ≡ reply_text reply
 
 -- whether a record has such an answer of the machine

@@ -102,10 +102,10 @@ pub record ReadsNothing (before after : Outside) : Type 0 where
   pub source : after.source ≡ before.source
 
 -- What the generated run comes to was written whole, in one write.
-pub record Summarised (number : ℕ) (refused : Bool) (before after : Outside) : Type 0 where
+pub record Summarised (number : ℕ) (before after : Outside) : Type 0 where
   pub unread : ReadsNothing before after
   pub reply : List (List ℕ)
-  pub generates : Generates number reply refused
+  pub generates : Generates number reply
   pub written : Appends before.sink.written after.sink.written (reply_text reply)
   pub writes : CountsOn (pieces_of reply) before.sink.calls after.sink.calls
 
@@ -113,8 +113,7 @@ pub record Summarised (number : ℕ) (refused : Bool) (before after : Outside) :
 pub record CutsSummary (number : ℕ) (before after : Outside) : Type 0 where
   pub unread : ReadsNothing before after
   pub reply : List (List ℕ)
-  pub refused : Bool
-  pub generates : Generates number reply refused
+  pub generates : Generates number reply
   pub written : WritesFront before.sink.written after.sink.written (reply_text reply)
   pub writes : CountsOn 1 before.sink.calls after.sink.calls
 
@@ -123,10 +122,10 @@ pub record SummarisesNothing (before after : Outside) : Type 0 where
   pub unread : ReadsNothing before after
   pub written : Keeps before.sink.written after.sink.written
 
--- -g: what each status means
+-- -g: what each status means; its load is never refused
 abbrev pub MeansGenerated : ℕ → Outside → Outside → Status → Type 0
-MeansGenerated number before after status.Done = Summarised number false before after
-MeansGenerated number before after status.Refused = Summarised number true before after
+MeansGenerated number before after status.Done = Summarised number before after
+MeansGenerated number before after status.Refused = ⊥
 MeansGenerated number before after status.Words = ⊥
 MeansGenerated number before after status.ReadFault = ⊥
 MeansGenerated number before after status.WriteFault = CutsSummary number before after

@@ -1,16 +1,16 @@
 //! The generated run: a configuration of 2,001 rules is loaded, and 5,000 records are answered (pfctl(8), -g).
-ghost use Rattle.std.specs.Prelude.{◌≡◌, ◌≤◌, ◌++◌, ◌∷◌, [], Some, IfOk, OnOk, codes, true};
-ghost use Rattle.pf_engine.specs.Answering.{is_refused};
+ghost use Rattle.std.specs.Prelude.{◌≡◌, ◌<◌, ◌≤◌, ◌^◌, ◌++◌, ◌∷◌, [], Some, IfOk, OnOk, codes, length, true};
 ghost use Rattle.pf_runs.specs.Runs.{reply_text};
 ghost use Rattle.pf_source.specs.Told.{FilesTold, SourceTold};
 ghost use Rattle.pfctl.specs.Doing.{status_by};
-ghost use Rattle.pfctl.specs.Generating.{Counted, GeneratesBytes, IsJudged, one_if, says, summary_line};
+ghost use Rattle.pfctl.specs.Generating.{Counted, IsJudged, Summed, load_line, one_if, says, summary_line};
 ghost use Rattle.pfctl.specs.Program.{HasWriteCause, MeansGenerated, outside};
 
+use crate::laws::a_generated_load_is_done;
 use crate::program::Status;
 use crate::session::{Stop, send};
-use pf_base::{List, NoMemory, Text};
-use pf_engine::{Engine, Outcome};
+use pf_base::{Level, List, NoMemory, Text};
+use pf_engine::Engine;
 use pf_gen::generated;
 use pf_record::read_packet;
 use pf_reply::put_count;
@@ -23,6 +23,20 @@ use std::alloc::Global;
 enum Verdict {
     Passed,
     Blocked,
+}
+
+/// The rules of a generated configuration.
+const RULES: u32 = 2001;
+
+/// What a generated run comes to (pfctl(8), -g).
+#[derive(Clone, Copy, Debug, PartialEq, Eq)]
+pub struct Summary {
+    /// The rules of the machine, as they are written.
+    pub rules: u32,
+    /// The records that the machine lets pass.
+    pub pass: u32,
+    /// Those that it blocks.
+    pub block: u32,
 }
 
 // Files that hold the configuration alone, under the name `generated`.
@@ -66,7 +80,7 @@ fn is_judged(engine: &Engine, text: &[u8], verdict: Verdict) -> bool
 }
 
 // One where it is so, else none.
-fn one_if(is: bool) -> u64
+fn one_if(is: bool) -> u32
     ensures value { result ≡ one_if is }
     ensures few { result ≤ 1 }
 {
@@ -74,7 +88,8 @@ fn one_if(is: bool) -> u64
 }
 
 // How many of the records have this verdict.
-fn count(engine: &Engine, records: &[Text], verdict: Verdict) -> u64
+fn count(engine: &Engine, records: &[Text], verdict: Verdict) -> u32
+    requires { length records.now < 2 ^ 32 }
     ensures { Counted (says verdict) engine.now records.now result }
 {
     let mut count = 0;
@@ -86,38 +101,52 @@ fn count(engine: &Engine, records: &[Text], verdict: Verdict) -> u64
     count
 }
 
-// Appends the summary of a run, with its newline.
-fn put_summary(out: &mut Vec<u8>, number: u32, passed: u64, blocked: u64) -> Result<(), NoMemory>
-    ensures { OnOk result (out.new.items ≡ out.old.items ++ reply_text (summary_line number passed blocked ∷ [])) }
+// The line that loads the configuration at a level.
+fn load_line(level: Level) -> &'static [u8]
+    ensures { result.now ≡ load_line level }
 {
-    out.extend_from_slice(b"gen ")?;
-    put_count(out, number as u64)?;
-    out.extend_from_slice(b" rules=2001 pass=")?;
-    put_count(out, passed)?;
-    out.extend_from_slice(b" block=")?;
-    put_count(out, blocked)?;
-    out.extend_from_slice(b"\n")?;
-    Ok(())
+    match level {
+        Level::None => b"load -o none generated".as_slice(),
+        Level::Basic => b"load -o basic generated".as_slice(),
+        Level::Profile => b"load -o profile generated".as_slice(),
+    }
 }
 
-// What the run of a number comes to: its reply, which replaces what the buffer held, and whether the load was refused.
-fn generate(alloc: Global, number: u32, reply: &mut Vec<u8>) -> Result<Outcome, NoMemory>
-    ensures { IfOk result (λ outcome. GeneratesBytes number reply.new.items (is_refused outcome)) }
+/// What the run of a number comes to at a level: the configuration is loaded into the empty machine, which is never refused, and
+/// the machine answers each of the records (pfctl(8), -g, -o).
+pub fn summary_at(alloc: Global, number: u32, level: Level) -> Result<Summary, NoMemory>
+    ensures { IfOk result (λ summary. Summed number level summary) }
 {
+    a_generated_load_is_done();
     let made = generated(alloc, number)?;
     let mut files = files_of(alloc, made.config)?;
     let mut engine = Engine::new(alloc);
-    reply.clear();
-    let outcome = engine.step(alloc, &mut files, b"load -o basic generated", reply)?;
-    if outcome.is_refused() {
-        return Ok(outcome);
-    }
+    let mut reply = Vec::new(alloc);
+    engine.step(alloc, &mut files, load_line(level), &mut reply)?;
     let records = made.records.items();
-    let passed = count(&engine, records, Verdict::Passed);
-    let blocked = count(&engine, records, Verdict::Blocked);
-    reply.clear();
-    put_summary(reply, number, passed, blocked)?;
-    Ok(outcome)
+    let pass = count(&engine, records, Verdict::Passed);
+    let block = count(&engine, records, Verdict::Blocked);
+    Ok(Summary {
+        rules: RULES,
+        pass,
+        block,
+    })
+}
+
+// Appends the summary of a run, with its newline.
+fn put_summary(out: &mut Vec<u8>, number: u32, summary: &Summary) -> Result<(), NoMemory>
+    ensures { OnOk result (out.new.items ≡ out.old.items ++ reply_text (summary_line number summary.now ∷ [])) }
+{
+    out.extend_from_slice(b"gen ")?;
+    put_count(out, number as u64)?;
+    out.extend_from_slice(b" rules=")?;
+    put_count(out, summary.rules as u64)?;
+    out.extend_from_slice(b" pass=")?;
+    put_count(out, summary.pass as u64)?;
+    out.extend_from_slice(b" block=")?;
+    put_count(out, summary.block as u64)?;
+    out.extend_from_slice(b"\n")?;
+    Ok(())
 }
 
 /// Writes what the run of a number comes to, in one write. No file is read, and nothing of the input.
@@ -127,11 +156,9 @@ pub fn summarise<W: Sink>(alloc: Global, number: u32, out: &mut W) -> Result<Sta
     ensures cause { (files : FilesTold) (source : SourceTold) → HasWriteCause
         (outside files source (W.tells out.old)) (outside files source (W.tells out.new)) (status_by result) }
 {
+    let summary = summary_at(alloc, number, Level::Basic)?;
     let mut reply = Vec::new(alloc);
-    let outcome = generate(alloc, number, &mut reply)?;
+    put_summary(&mut reply, number, &summary)?;
     send(out, reply.as_slice())?;
-    Ok(match outcome {
-        Outcome::Done => Status::Done,
-        Outcome::Refused => Status::Refused,
-    })
+    Ok(Status::Done)
 }

@@ -1,12 +1,21 @@
 //! Laws of runs, without code.
-ghost use Rattle.std.specs.Prelude.{◌≡◌, ℕ, Bool, List};
+ghost use Rattle.std.specs.Prelude.{◌≡◌, ℕ, false, List};
 ghost use Rattle.pf_engine.specs.Step.{step};
-ghost use Rattle.pf_runs.specs.Runs.{Script};
+ghost use Rattle.pf_genload.specs.Generated.{generated_disk};
+ghost use Rattle.pf_runs.specs.Runs.{Script, Stepped};
 ghost use Rattle.pf_source.specs.Disk.{Disk};
+ghost use Rattle.pf_state.specs.Machine.{empty_machine};
 ghost use Rattle.pf_state.specs.declared.machine.Machine.{Machine};
-ghost use Rattle.pfctl.specs.Generating.{Generates};
+ghost use Rattle.pf_base.specs.declared.kind.Level.{Level};
+ghost use Rattle.pf_state.specs.Rulesets.{count_rules};
+ghost use Rattle.pfctl.specs.declared.generating.Summary.{Summary};
+ghost use Rattle.pfctl.specs.Generating.{Generates, Summed, load_line};
 
 use pf_engine::{Engine, a_line_does_one_thing};
+use pf_genload::{
+    a_generated_configuration_loads, a_plan_of_one_ruleset_answers_alike,
+    a_plan_of_one_ruleset_stands,
+};
 use pf_record::a_record_is_read_one_way;
 use pf_runs::a_script_has_one_run;
 
@@ -19,10 +28,31 @@ pub fn a_script_writes_one_thing()
     a_script_has_one_run::<Engine>();
 }
 
-/// The generated run of a number comes to one thing at most: its reply, and whether it was refused, are determined.
+/// The generated run of a number comes to one thing at most: its reply is determined.
 pub fn a_number_comes_to_one_thing()
-    ensures { (number : ℕ) (a b : List (List ℕ)) (c d : Bool) → Generates number a c → Generates number b d → (a ≡ b) × (c ≡ d) }
+    ensures { (number : ℕ) (a b : List (List ℕ)) → Generates number a → Generates number b → a ≡ b }
 {
-    a_line_does_one_thing();
+    a_number_counts_alike_at_each_level();
+}
+
+/// What a number comes to is one thing at most, and the same at every level: so many rules, and so many records that pass and that
+/// are blocked (pfctl(8), -o).
+pub fn a_number_counts_alike_at_each_level()
+    ensures { (number : ℕ) (a b : Level) (one other : Summary) → Summed number a one → Summed number b other → one ≡ other }
+{
+    a_generated_configuration_loads();
+    a_plan_of_one_ruleset_stands();
+    a_plan_of_one_ruleset_answers_alike();
     a_record_is_read_one_way();
+}
+
+/// The load of a generated configuration into the empty machine is never refused, whatever the number and the level, and leaves
+/// 2,001 rules.
+pub fn a_generated_load_is_done()
+    ensures done { (number : ℕ) (level : Level) (does : Stepped Machine) → step (generated_disk number) empty_machine (load_line level) does → does.refused ≡ false }
+    ensures rules { (number : ℕ) (level : Level) (does : Stepped Machine) → step (generated_disk number) empty_machine (load_line level) does
+        → count_rules does.machine.rulesets ≡ 2001 }
+{
+    a_generated_configuration_loads();
+    a_plan_of_one_ruleset_stands();
 }

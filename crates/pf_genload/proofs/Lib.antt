@@ -1,0 +1,9 @@
+mod Glyphs
+mod Lines
+mod Rules
+mod Numbers
+mod Sources
+mod Texts
+mod Turns
+mod Loading
+mod Standing
