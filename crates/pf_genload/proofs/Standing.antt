@@ -16,6 +16,7 @@ use Rattle.pf_optim.specs.declared.node.Node.{Node}
 use Rattle.pf_plan.specs.Ends.{level_of}
 use Rattle.pf_plan.specs.declared.plan.Part.{Part}
 use Rattle.pf_reply.specs.declared.refusal.Refusal.{Refusal}
+use Rattle.pf_rule.specs.Effect.{is_anchor}
 use Rattle.pf_rule.specs.declared.effect.Action.{Action}
 use Rattle.pf_rule.specs.declared.effect.Action.TheVariants as actions
 use Rattle.pf_rule.specs.declared.rule.Rule.{Rule}
@@ -39,7 +40,7 @@ use Rattle.pf_tree.specs.Paths.{in_byte_order, name_behind}
 use Rattle.pf_eval.specs.Rulesets as evaluated
 use Rattle.pf_host.specs.Facts.{HostFacts}
 use Rattle.pf_rule.specs.declared.packet.Packet.{Packet}
-use Rattle.pf_genload.specs.Generated.{calls_no_ruleset, is_anchor, plan_with}
+use Rattle.pf_genload.specs.Generated.{calls_no_ruleset, plan_with}
 
 -- ---- the ruleset that stands then
 

@@ -9,25 +9,18 @@ use Rattle.pf_load.specs.declared.loading.LoadOptions.{LoadOptions}
 use Rattle.pf_plan.specs.Ends.{level_of}
 use Rattle.pf_plan.specs.declared.plan.Plan.{Plan}
 use Rattle.pf_plan.specs.declared.plan.Whole.{Whole}
-use Rattle.pf_rule.specs.declared.effect.Action.{Action}
-use Rattle.pf_rule.specs.declared.effect.Action.TheVariants as actions
+use Rattle.pf_rule.specs.Effect.{is_anchor}
 use Rattle.pf_rule.specs.declared.rule.Rule.{Rule}
 use Rattle.pf_source.specs.Disk.{Disk}
 use Rattle.pf_source.specs.Told.{file_of}
 
--- the one file that a generated run reads
+-- the configuration of a number as the one file of a disk: a generated run reads no other
 abbrev pub generated_disk : ℕ → Disk
 generated_disk number = file_of (record { files = record { name = codes "generated"; bytes = config_of number } ∷ []; sure = true })
 
--- it fills the main ruleset, at this level where one is given, and no macros are given
+-- the load fills the main ruleset, at this level where one is given; it is given no macros
 abbrev pub options_at : Option Level → LoadOptions
 options_at level = record { level = level; path = []; defines = [] }
-
-abbrev pub is_anchor : Action → Bool
-is_anchor actions.Pass = false
-is_anchor (actions.Block kind) = false
-is_anchor actions.Match = false
-is_anchor (actions.Anchor call) = true
 
 -- only an anchor rule calls a ruleset (pf.conf(5), ANCHORS)
 abbrev pub calls_no_ruleset : Rule → Bool
@@ -49,8 +42,8 @@ plan_with rules level = record {
 abbrev pub LoadsAs : ℕ → Option Level → Outcome → Type 0
 LoadsAs number level outcome = Loads (generated_disk number) no_facts (options_at level) (codes "generated") outcome
 
--- The configuration of a number is one list of rules: one for `block all`, and one for each of the 2,000 lines behind it. None of
--- them calls a ruleset. At each level its load comes to the plan with these rules, and to nothing else.
+-- The configuration of a number is one list of rules, as many as it has lines: `block all` and 2,000 behind it. None of them calls
+-- a ruleset. At each level its load comes to the plan with these rules, and to nothing else.
 pub record LoadsWhole (number : ℕ) : Type 0 where
   pub rules : List Rule
   pub count : length rules ≡ 2001

@@ -26,7 +26,7 @@ pub fn a_generated_configuration_loads()
 }
 
 /// A law: a plan of the main ruleset alone has no refusal where nothing stands, if it has some rules, no more than a tree may have,
-/// and none that calls a ruleset; then those are the rules that stand (pf(4), DIOCXCOMMIT).
+/// and none that calls a ruleset; and where it has some, as many stand when it is put in place (pf(4), DIOCXCOMMIT).
 pub fn a_plan_of_one_ruleset_stands()
     ensures accepted { (rules : List AnyRule) (level : Option AnyLevel) (refusal : Option AnyRefusal) → 0 < length rules → length rules ≤ 131072
         → list_all calls_no_ruleset rules ≡ true → LoadJudged empty_machine (ready_of [] (plan_with rules level)) refusal → refusal ≡ None }
@@ -34,7 +34,8 @@ pub fn a_plan_of_one_ruleset_stands()
         → count_rules (committed (ready_of [] (plan_with rules level)).parts empty_machine.rulesets) ≡ length rules }
 {}
 
-/// A law: such a plan answers each packet alike at every level, where nothing stood (pfctl(8), -o).
+/// A law: a plan of the main ruleset alone, with some rules, answers each packet alike at every level, where nothing stood
+/// (pfctl(8), -o).
 pub fn a_plan_of_one_ruleset_answers_alike()
     ensures { (rules : List AnyRule) (a b : Option AnyLevel) (facts : HostFacts) (skip : List (List ℕ)) (packet : AnyPacket) → 0 < length rules
         → answer_of (committed (ready_of [] (plan_with rules a)).parts empty_machine.rulesets) facts skip packet

@@ -20,7 +20,7 @@ use Rattle.pf_engine.specs.Step.{step}
 use Rattle.pf_state.specs.Machine.{empty_machine}
 use Rattle.pf_state.specs.Rulesets.{count_rules}
 use Rattle.pf_state.specs.declared.machine.Machine.{Machine}
-use Rattle.pfctl.specs.Generating.{AreReadAs, Counted, GeneratesBytes, IsJudged, Summed, blocks, is_answered, load_line, one_if, passes, summary_line}
+use Rattle.pfctl.specs.Generating.{AreReadAs, Counted, Generates, IsJudged, Summed, blocks, is_answered, load_line, one_if, passes, summary_line}
 use Rattle.pfctl.specs.declared.generating.Summary.{Summary}
 
 pub counted_none : (which : Answer → Bool) (machine : Machine) → Counted which machine [] 0
@@ -127,6 +127,12 @@ pub summary_joined : (o : List ℕ) (number : ℕ) (summary : Summary)
 summary_joined o number summary =
     joined o (codes "gen ") (decimal number) (codes " rules=") (decimal summary.rules) (codes " pass=") (decimal summary.pass) (codes " block=") (decimal summary.block) (10 ∷ [])
     ∙ ap (λ text. o ++ text) (sym (append-nil (summary_line number summary ++ 10 ∷ [])))
+
+-- what a generated run comes to, by the bytes of its reply
+pub record GeneratesBytes (number : ℕ) (bytes : List ℕ) : Type 0 where
+  pub reply : List (List ℕ)
+  pub generates : Generates number reply
+  pub are : bytes ≡ reply_text reply
 
 -- the line of a summary is the reply
 pub bytes_of : (number : ℕ) (summary : Summary) (old bytes : List ℕ) → Summed number levels.Basic summary → old ≡ [] → bytes ≡ old ++ reply_text (summary_line number summary ∷ []) → GeneratesBytes number bytes

@@ -11,7 +11,7 @@ use Rattle.pf_rule.specs.declared.effect.Action.{Action}
 use Rattle.pf_rule.specs.declared.effect.Action.TheVariants as actions
 use Rattle.pf_rule.specs.declared.packet.Packet.{Packet}
 use Rattle.pf_rule.specs.declared.walk.Answer.{Answer}
-use Rattle.pf_runs.specs.Runs.{Stepped, reply_text}
+use Rattle.pf_runs.specs.Runs.{Stepped}
 use Rattle.pf_engine.specs.Step.{step}
 use Rattle.pf_engine.specs.TestLines.{asked}
 use Rattle.pf_script.specs.Grammar.{level_word}
@@ -63,7 +63,7 @@ pub record Counted (which : Answer → Bool) (machine : Machine) (records : List
   pub are : AreReadAs records reads
   pub is : count ≡ length (filter (is_answered which machine) reads)
 
--- the line that loads the one file that the generated run reads
+-- the line that loads the generated configuration
 abbrev pub load_line : Level → List ℕ
 load_line level = codes "load -o " ++ level_word level ++ codes " generated"
 
@@ -86,12 +86,6 @@ pub record Generates (number : ℕ) (reply : List (List ℕ)) : Type 0 where
   pub summary : Summary
   pub sums : Summed number levels.Basic summary
   pub is : reply ≡ summary_line number summary ∷ []
-
--- the same, by the bytes of the reply
-pub record GeneratesBytes (number : ℕ) (bytes : List ℕ) : Type 0 where
-  pub reply : List (List ℕ)
-  pub generates : Generates number reply
-  pub are : bytes ≡ reply_text reply
 
 -- whether a record has such an answer of the machine
 pub record IsJudged (which : Answer → Bool) (machine : Machine) (record_text : List ℕ) (is : Bool) : Type 0 where

@@ -1,5 +1,5 @@
 -- The program: what its words say, the lines that it executes, and what each of its ends means.
-use Rattle.std.specs.Prelude.{◌≡◌, ℕ, Bool, true, false, List, [], ◌++◌, take, Option, Some, None}
+use Rattle.std.specs.Prelude.{◌≡◌, ◌≤◌, ℕ, Bool, true, false, List, [], ◌++◌, take, Option, Some, None}
 use Rattle.std.specs.Io.KnownBytes.{Appends, Keeps}
 use Rattle.std.specs.declared.io.ErrorKind.{ErrorKind}
 use Rattle.std.specs.declared.io.ErrorKind.TheVariants as error
@@ -117,10 +117,13 @@ pub record CutsSummary (number : ℕ) (before after : Outside) : Type 0 where
   pub written : WritesFront before.sink.written after.sink.written (reply_text reply)
   pub writes : CountsOn 1 before.sink.calls after.sink.calls
 
--- Nothing was written of it.
+-- Nothing of it was written, in one write at most.
 pub record SummarisesNothing (before after : Outside) : Type 0 where
   pub unread : ReadsNothing before after
   pub written : Keeps before.sink.written after.sink.written
+  pub tries : ℕ
+  pub once : tries ≤ 1
+  pub writes : CountsOn tries before.sink.calls after.sink.calls
 
 -- -g: what each status means; its load is never refused
 abbrev pub MeansGenerated : ℕ → Outside → Outside → Status → Type 0

@@ -25,17 +25,17 @@ enum Verdict {
     Blocked,
 }
 
-/// The rules of a generated configuration.
+/// How many rules a generated configuration has.
 const RULES: u32 = 2001;
 
 /// What a generated run comes to (pfctl(8), -g).
 #[derive(Clone, Copy, Debug, PartialEq, Eq)]
 pub struct Summary {
-    /// The rules of the machine, as they are written.
+    /// How many rules the machine has, as they are written.
     pub rules: u32,
-    /// The records that the machine lets pass.
+    /// How many of the records it lets pass.
     pub pass: u32,
-    /// Those that it blocks.
+    /// How many of them it blocks.
     pub block: u32,
 }
 
