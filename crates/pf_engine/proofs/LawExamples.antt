@@ -1,10 +1,11 @@
 -- The laws of lines at some lines: none of them speaks of nothing.
-use Rattle.std.proofs.Common.{◌≡◌, ℕ, false, List, [], ◌∷◌, Option, Some, None, refl, sym, ap, subst, if◌then◌else◌}
+use Rattle.std.proofs.Common.{◌≡◌, ℕ, false, List, [], ◌∷◌, Option, Some, None, refl, sym, ap, subst, ◌∙◌, arith, if◌then◌else◌}
 use Rattle.std.specs.Prelude.{◌==◌, Contains, codes, is_some}
 use Rattle.std.specs.Cmp.Lexicographic.{nat_list_cmp_total}
 use Rattle.std.specs.FinMap as finite
 use Rattle.std.specs.Option.{option_map, option_map_or}
 use Rattle.std.proofs.lemmas.Map.Made.{is_member-Decides}
+use Rattle.pf_base.specs.Path.{read_path}
 use Rattle.pf_base.specs.Text.{words_of}
 use Rattle.pf_base.specs.declared.kind.Level.TheVariants.{None as at_no_level}
 use Rattle.pf_token.specs.Bytes.{is_name_byte}
@@ -18,22 +19,27 @@ use Rattle.pf_parts.specs.declared.call.Base.TheVariants.{Root}
 use Rattle.pf_parts.specs.declared.call.Call.{Call}
 use Rattle.pf_reply.specs.declared.refusal.Refusal.{Refusal}
 use Rattle.pf_reply.specs.declared.refusal.Refusal.TheVariants as refusals
+use Rattle.pf_reply.specs.declared.reply.Reply.TheVariants.{Flushed}
 use Rattle.pf_script.specs.Command.{command_of, keyword_of}
 use Rattle.pf_shelf.specs.Shelf.{name_cmp}
 use Rattle.pf_source.specs.Disk.{Disk}
+use Rattle.pf_state.specs.Flushes.{flushed}
 use Rattle.pf_state.specs.Judging.{Judged, call_refusal}
 use Rattle.pf_state.specs.Limits.{first_of, tree_limits}
 use Rattle.pf_state.specs.Machine.{empty_machine}
 use Rattle.pf_state.specs.Rulesets.{Rulesets, calls_in, graph_in, written_in}
-use Rattle.pf_state.specs.Sessions.{closed}
+use Rattle.pf_state.specs.Sessions.{closed, opened}
 use Rattle.pf_state.specs.declared.machine.Machine.{Machine}
 use Rattle.pf_state.specs.declared.ready.Opened.{Opened}
 use Rattle.pf_state.specs.declared.ready.Staged.{Staged}
 use Rattle.pf_tree.specs.GrownLaws.{path_total}
 use Rattle.pf_tree.specs.Order.{path_cmp}
-use Rattle.pf_engine.specs.SessionLines.{CommitOf, rolled_back, step_rollback}
+use Rattle.pf_engine.specs.Anew.{Begins}
+use Rattle.pf_engine.specs.SessionLines.{CommitOf, rolled_back, step_flush, step_rollback}
 use Rattle.pf_engine.specs.Step.{step}
-use Rattle.pf_engine.specs.Steps.{refused}
+use Rattle.pf_engine.specs.Steps.{done, refused}
+use Rattle.pf_engine.specs.Waiting.{IsStale}
+use Rattle.pf_engine.proofs.Drawing.{given_within}
 use Rattle.pf_engine.proofs.Shallow.{key_of}
 use Rattle.pf_engine.proofs.SomeThing.{some_calls}
 
@@ -84,6 +90,30 @@ closes =
       judged = in_front _ _ (refusals.Stale [] 1 0) (ap (λ (ticket : Option ℕ). first_of (stale_by ticket ∷ [])) (finite.get-empty path_cmp []));
       is = refl;
     })
+
+-- ---- rulesets that are begun anew
+
+-- a session for the main ruleset that was just opened isn't stale
+abbrev just_opened : Machine
+just_opened = opened (codes "s") session.ready empty_machine
+
+not_stale : IsStale just_opened session → ⊥
+not_stale stale = stale.other (sym (given_within 1 ([] ∷ []) finite.empty stale.path stale.part))
+
+-- a flush begins that ruleset, and the session is stale then
+flushes : step no_files just_opened (codes "flush rules /") (done (flushed [] just_opened) (Flushed []))
+unfolding step command_of keyword_of words_of read_path step_flush
+flushes = refl
+
+begins_main : Begins no_files just_opened (codes "flush rules /") (done (flushed [] just_opened) (Flushed [])) []
+unfolding command_of keyword_of words_of read_path
+begins_main = record { done = refl; begins = refl }
+
+one_or_two : ◌≡◌ {A = ℕ} 1 2 → ⊥
+one_or_two e = omega arith
+
+stale_then : IsStale (flushed [] just_opened) session
+stale_then = record { path = []; part = now_in [] []; other = λ held. one_or_two (held ∙ given_within 2 ([] ∷ []) just_opened.tickets [] (now_in [] [])) }
 
 -- ---- rulesets that aren't shallow
 

@@ -152,7 +152,7 @@ module _ (ones : ReadOneWay) where
   behind_one disk facts line (Ok rows) a b h k = file_one disk facts (options_of line) line.file rows a b h k
   behind_one disk facts line (Err refusal) a b h k = h ∙ sym k
 
-  line_one : (disk : Disk) (facts : HostFacts) (line : LoadLine) (a b : Result Ready Refusal) → LineComes disk facts line a → LineComes disk facts line b → a ≡ b
+  pub line_one : (disk : Disk) (facts : HostFacts) (line : LoadLine) (a b : Result Ready Refusal) → LineComes disk facts line a → LineComes disk facts line b → a ≡ b
   line_one disk facts line a b h k =
       let same = profile_read_one disk line.profile h.profile k.profile h.reads k.reads in
       behind_one disk facts line k.profile a b (subst (λ (read : Result (List Row) Refusal). ComesBehind disk facts line read a) same h.comes) k.comes

@@ -15,4 +15,5 @@ pub mod WordsRead
 pub mod Laws
 pub mod Reached
 pub mod Waiting
+pub mod Anew
 pub mod Whatever

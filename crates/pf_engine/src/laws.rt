@@ -1,17 +1,20 @@
 //! Laws of steps, without code.
-ghost use Rattle.std.specs.Prelude.{◌≡◌, ℕ, List, Option, Some, true, false};
+ghost use Rattle.std.specs.Prelude.{◌≡◌, ◌⊎◌, ◌↔◌, ℕ, ◌≤◌, List, [], ◌∷◌, ◌++◌, Option, Some, true, false};
 ghost use Rattle.std.specs.FinMap as finite;
 ghost use Rattle.pf_calls.specs.Graph.{IsShallow};
-ghost use Rattle.pf_runs.specs.Runs.{DoesOneThing, DoesSome, Stepped};
+ghost use Rattle.pf_runs.specs.Runs.{DoesOneThing, DoesSome, Event, Follow, Stepped, machine_after};
 ghost use Rattle.pf_source.specs.Disk.{Disk};
+ghost use Rattle.pf_engine.specs.Anew.{Begins, BeginsItsPlan, IsBegunAnew, IsNew, IsStaleSince, OpensAnew, RefusesStale, TellsStale, TicketsAreDrawn};
 ghost use Rattle.pf_engine.specs.Answering.{loads};
 ghost use Rattle.pf_engine.specs.Laws.{ChangesNothing};
 ghost use Rattle.pf_script.specs.Command.{command_of};
-ghost use Rattle.pf_script.specs.declared.command.Command.TheVariants.{Commit};
+ghost use Rattle.pf_script.specs.declared.command.Command.TheVariants.{Commit, Flush, Load, Open};
+ghost use Rattle.pf_script.specs.declared.command.LoadLine.{LoadLine};
 ghost use Rattle.pf_state.specs.Commits.{stands_at};
 ghost use Rattle.pf_state.specs.declared.ready.Opened.{Opened as AnyOpened};
 ghost use Rattle.pf_engine.specs.Step.{step};
 ghost use Rattle.pf_state.specs.Machine.{empty_machine};
+ghost use Rattle.pf_state.specs.Tickets.{ticket_at};
 ghost use Rattle.pf_engine.specs.Reached.{IsReached, answer_by};
 ghost use Rattle.pf_engine.specs.TestLines.{asked};
 ghost use Rattle.pf_engine.specs.Waiting.{IsStale, OnlyCloses, StandsAsBefore, changes_rulesets};
@@ -98,6 +101,62 @@ pub fn plans_wait_for_their_commit()
         does.refused ≡ false → (path : List (List ℕ)) → finite.get does.machine.rulesets path ≡ stands_at session.ready.parts machine.rulesets path }
 {
     a_load_is_one_replacement();
+}
+
+/// Tickets are drawn one after another (pf(4), DIOCXBEGIN): those of all paths and of all open sessions are below the next one, and
+/// no ruleset of an open session's plan has an older one than the session. It is so at first, each line keeps it, and so it is behind
+/// each run of lines. So no path and no open session has the ticket that is next.
+pub fn tickets_stay_drawn()
+    ensures first { TicketsAreDrawn empty_machine }
+    ensures on { (disk : Disk) (machine : Machine) (line : List ℕ) (does : Stepped Machine) → TicketsAreDrawn machine → step disk machine line does → TicketsAreDrawn does.machine }
+    ensures reached { (machine : Machine) → IsReached machine → TicketsAreDrawn machine }
+    ensures new { (machine : Machine) → TicketsAreDrawn machine → IsNew machine machine.next }
+{}
+
+/// A `load` or an `open` that is done begins the rulesets of its plan, and a flush the one that it flushes; no other line and no
+/// refused one begins any. A ruleset that a line begins has the ticket that was next, and each other one the ticket that it had. The
+/// next ticket never falls.
+pub fn rulesets_are_begun_with_the_next_ticket()
+    ensures load { (disk : Disk) (machine : Machine) (line : List ℕ) (options : LoadLine) (does : Stepped Machine) →
+        command_of line ≡ Some (Load options) → step disk machine line does → does.refused ≡ false → BeginsItsPlan disk machine options line does }
+    ensures opened { (disk : Disk) (machine : Machine) (line name : List ℕ) (options : LoadLine) (does : Stepped Machine) →
+        command_of line ≡ Some (Open name options) → step disk machine line does → does.refused ≡ false → BeginsItsPlan disk machine options line does }
+    ensures flush { (disk : Disk) (machine : Machine) (line : List ℕ) (path : List (List ℕ)) (does : Stepped Machine) →
+        command_of line ≡ Some (Flush path) → step disk machine line does → (other : List (List ℕ)) → Begins disk machine line does other ↔ (other ≡ path) }
+    ensures begun { (disk : Disk) (machine : Machine) (line : List ℕ) (does : Stepped Machine) (path : List (List ℕ)) →
+        step disk machine line does → Begins disk machine line does path → ticket_at does.machine.tickets path ≡ machine.next }
+    ensures others { (disk : Disk) (machine : Machine) (line : List ℕ) (does : Stepped Machine) (path : List (List ℕ)) →
+        step disk machine line does → (Begins disk machine line does path → ⊥) → ticket_at does.machine.tickets path ≡ ticket_at machine.tickets path }
+    ensures rises { (disk : Disk) (machine : Machine) (line : List ℕ) (does : Stepped Machine) → step disk machine line does → machine.next ≤ does.machine.next }
+{
+    a_load_comes_to_one_thing();
+    a_record_is_read_one_way();
+    profiles_have_one_meaning();
+    facts_have_one_meaning();
+    facts_and_one_fault_exclude_each_other();
+    texts_are_read_in_one_way();
+}
+
+/// A commit is refused as stale exactly where another load, session or flush has begun one of its session's rulesets since the
+/// `open` (pf(4), DIOCXCOMMIT): right behind its `open` a session isn't stale, and behind further lines it is stale exactly where it
+/// was before or one of them began a ruleset of its plan. This refusal comes before all others, and tells the first such ruleset.
+pub fn a_commit_is_stale_where_a_ruleset_was_begun_anew()
+    ensures opened { (disk : Disk) (machine : Machine) (line name : List ℕ) (options : LoadLine) (does : Stepped Machine) →
+        command_of line ≡ Some (Open name options) → step disk machine line does → does.refused ≡ false → OpensAnew machine name does.machine }
+    ensures later { (disk : Disk) (machine : Machine) (name : List ℕ) (session : AnyOpened) (events : List (Event Machine)) →
+        TicketsAreDrawn machine → finite.get machine.sessions name ≡ Some session → Follow step disk machine events →
+        IsStale (machine_after machine events) session ↔ (IsStale machine session ⊎ IsBegunAnew disk machine events session) }
+    ensures tells { (disk : Disk) (machine : Machine) (line name : List ℕ) (session : AnyOpened) (does : Stepped Machine) →
+        command_of line ≡ Some (Commit name) → finite.get machine.sessions name ≡ Some session → step disk machine line does →
+        TellsStale does ↔ IsStale machine session }
+    ensures first { (disk : Disk) (machine : Machine) (line name : List ℕ) (session : AnyOpened) (does : Stepped Machine) →
+        command_of line ≡ Some (Commit name) → finite.get machine.sessions name ≡ Some session → step disk machine line does →
+        IsStale machine session → RefusesStale machine name session does }
+    ensures exactly { (disk : Disk) (events : List (Event Machine)) (commit : Event Machine) (name : List ℕ) (session : AnyOpened) →
+        Follow step disk empty_machine (events ++ commit ∷ []) → command_of commit.line ≡ Some (Commit name) →
+        finite.get (machine_after empty_machine events).sessions name ≡ Some session → IsStaleSince disk events name session commit.does }
+{
+    rulesets_are_begun_with_the_next_ticket();
 }
 
 /// The rulesets whose calls are judged and those that answer packets are one thing: the same rules, tables and calls.

@@ -20,8 +20,9 @@ mod within;
 
 pub use engine::Engine;
 pub use laws::{
-    a_line_does_one_thing, a_line_does_something, a_refusal_changes_nothing,
-    answers_are_those_of_the_walk, judged_rulesets_answer_packets, plans_wait_for_their_commit,
-    the_calls_of_rulesets_stay_shallow,
+    a_commit_is_stale_where_a_ruleset_was_begun_anew, a_line_does_one_thing, a_line_does_something,
+    a_refusal_changes_nothing, answers_are_those_of_the_walk, judged_rulesets_answer_packets,
+    plans_wait_for_their_commit, rulesets_are_begun_with_the_next_ticket,
+    the_calls_of_rulesets_stay_shallow, tickets_stay_drawn,
 };
 pub use outcome::Outcome;
