@@ -7,7 +7,6 @@ pub mod Decided
 pub mod Doing
 pub mod Examples
 pub mod FactsFound
-pub mod FactsRead
 pub mod FactsTaken
 pub mod Faulted
 pub mod FewerEntries
