@@ -1,5 +1,5 @@
 -- What `table` lines are told, by what came of them.
-use Rattle.std.proofs.Common.{◌≡◌, ℕ, Bool, true, false, cond, List, [], ◌∷◌, ◌++◌, map, length, Option, Some, None, Result, Ok, Err, refl, sym, ap, subst, ◌∙◌}
+use Rattle.std.proofs.Common.{◌≡◌, ℕ, Bool, true, false, List, [], ◌∷◌, ◌++◌, map, length, Option, Some, None, Result, Ok, Err, refl, sym, ap, subst, ◌∙◌}
 use Rattle.std.specs.Prelude.{IfOk, OnOk, count_by, is_some, if◌then◌else◌}
 use Rattle.std.specs.FinMap as finite
 use Rattle.std.specs.Option.{option_map}
@@ -22,7 +22,7 @@ use Rattle.pf_shelf.specs.declared.change.Counts.{Counts}
 use Rattle.pf_shelf.specs.declared.decl.Shelved.{Shelved}
 use Rattle.pf_shelf.specs.Shelf.{name_cmp}
 use Rattle.pf_state.specs.Rulesets.{Rulesets, tables_in}
-use Rattle.pf_state.specs.Tables.{IsDone, IsRefused, change_counts, matches_at, table_at, with_table}
+use Rattle.pf_state.specs.Tables.{IsDone, IsRefused, change_counts, table_at, with_table}
 use Rattle.pf_state.specs.Words.{IsEntryWord, ReadsAll}
 use Rattle.pf_state.specs.declared.machine.Machine.{Machine}
 use Rattle.pf_table.specs.Table.{Signs, entries_of, member}
@@ -67,9 +67,6 @@ module _ (machine after : Machine) (path : List (List ℕ)) (name : List ℕ) (k
 
   pub refused_keeps : (refusal : Refusal) → IsKept machine → IsRefused machine path name kind words after refusal → IsKept after
   refused_keeps refusal kept is = subst IsKept (sym is.same) kept
-
-pub same_keeps : (machine after : Machine) → IsKept machine → after ≡ machine → IsKept after
-same_keeps machine after kept same = subst IsKept (sym same) kept
 
 -- ---- the table that is there, or isn't
 

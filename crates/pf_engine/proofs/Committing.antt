@@ -7,7 +7,7 @@ use Rattle.pf_reply.specs.declared.refusal.Refusal.{Refusal}
 use Rattle.pf_reply.specs.declared.refusal.Refusal.TheVariants.{NoSession}
 use Rattle.pf_reply.specs.declared.reply.Reply.TheVariants.{Committed, RolledBack}
 use Rattle.pf_shelf.specs.Shelf.{Tables}
-use Rattle.pf_state.specs.Sessions.{closed, finished, finished_as, shelves_for}
+use Rattle.pf_state.specs.Sessions.{closed, finished_as}
 use Rattle.pf_state.specs.declared.commit.Verdict.{Verdict}
 use Rattle.pf_state.specs.declared.commit.Verdict.TheVariants.{Fits, Refused}
 use Rattle.pf_state.specs.declared.machine.Machine.{Machine}
@@ -35,10 +35,6 @@ none_given_up machine name e = none_back machine name (finite.get machine.sessio
 pub is_open : (machine : Machine) (held : Option Opened) (verdict : Verdict) → SessionJudged machine held (Some verdict) → IsSome held
 is_open machine None verdict judged = absurd judged
 is_open machine (Some session) verdict judged = refl
-
-pub renewed_for : (machine : Machine) (held : Option Opened) (shelves : List Tables) → SessionJudged machine held (Some (Fits shelves)) → shelves ≡ shelves_for machine held
-renewed_for machine None shelves judged = absurd judged
-renewed_for machine (Some session) shelves judged = judged.shelves
 
 done_with : (machine : Machine) (name : List ℕ) (held : Option Opened) (shelves : List Tables) → SessionJudged machine held (Some (Fits shelves)) → CommitOf held machine name (done (finished_as name held machine) (Committed name))
 done_with machine name None shelves judged = absurd judged

@@ -1,5 +1,5 @@
 -- Rows of small scripts, computed with the definitions.
-use Rattle.std.proofs.Common.{◌≡◌, ℕ, List, ◌∷◌, Some, None, Err, refl}
+use Rattle.std.proofs.Common.{◌≡◌, ℕ, List, ◌∷◌, Option, Some, None, Err, refl, subst, inl, inr}
 use Rattle.std.specs.Prelude.{codes}
 use Rattle.std.specs.Fmt.{digits}
 use Rattle.pf_calls.specs.declared.row.CallFault.TheVariants.{Cycle}
@@ -7,15 +7,17 @@ use Rattle.pf_reply.specs.declared.refusal.Overfull.TheVariants.{Rulesets as Nod
 use Rattle.pf_reply.specs.declared.refusal.Refusal.TheVariants as refusals
 use Rattle.pf_reply.specs.declared.reply.Reply.TheVariants as told
 use Rattle.pf_runs.specs.Runs.{reply_text}
+use Rattle.pf_script.specs.declared.command.LoadLine.{LoadLine}
 use Rattle.pf_state.specs.Judging.{call_refusal}
 use Rattle.pf_state.specs.Limits.{first_of, limits}
 use Rattle.pf_state.specs.Tickets.{stale}
 use Rattle.pf_state.specs.declared.machine.Machine.{Machine}
 use Rattle.pf_engine.specs.Answering.{cannot_read_line}
-use Rattle.pf_engine.specs.HostLines.{FactsIn}
+use Rattle.pf_engine.specs.HostLines.{FactsIn, FactsMayCome}
 use Rattle.pf_engine.specs.LoadLines.{ProfileIn}
 use Rattle.pf_engine.specs.SessionLines.{CommitOf}
 use Rattle.pf_engine.specs.Steps.{done, done_unless, refused}
+use Rattle.pf_engine.specs.Whatever.{IsOfProfile, LineMayCome}
 
 -- a stale ruleset is told before a circle of calls, and that before the limits
 stale_first : (path other : List (List ℕ)) → first_of (Some (refusals.Stale path 1 2) ∷ Some (call_refusal (Cycle other)) ∷ limits 131073 0 0) ≡ Some (refusals.Stale path 1 2)
@@ -66,3 +68,20 @@ absent_profile = refl
 
 absent_facts : FactsIn (codes "f") None (Err (refusals.CannotRead (codes "f")))
 absent_facts = refl
+
+-- whatever the files of a line hold, no limit of the tree is told for them
+profile_fills_nothing : (profile : Option (List ℕ)) (count : ℕ) → IsOfProfile profile (refusals.TablesFull count) → ⊥
+profile_fills_nothing None count h = h
+profile_fills_nothing (Some name) count h = h
+
+files_fill_nothing : (line : LoadLine) (count : ℕ) → LineMayCome line (Err (refusals.TablesFull count)) → ⊥
+files_fill_nothing line count (inl h) = profile_fills_nothing line.profile count h
+files_fill_nothing line count (inr h) = h
+
+facts_fill_nothing : (file : List ℕ) (count : ℕ) → FactsMayCome file (Err (refusals.TablesFull count)) → ⊥
+facts_fill_nothing file count h = h
+
+-- nor a fault of a profile where the line names none
+no_profile_no_fault : (line : LoadLine) (at : ℕ) → line.profile ≡ None → LineMayCome line (Err (refusals.ProfileFault at)) → ⊥
+no_profile_no_fault line at none (inl h) = subst (λ (profile : Option (List ℕ)). IsOfProfile profile (refusals.ProfileFault at)) none h
+no_profile_no_fault line at none (inr h) = h

@@ -1,22 +1,21 @@
 -- What a `hosts` line does, by what was read.
-use Rattle.std.proofs.Common.{◌≡◌, ℕ, Bool, true, false, List, [], ◌∷◌, ◌++◌, length, Result, Ok, Err, refl, sym, ap, subst, ◌∙◌}
+use Rattle.std.proofs.Common.{◌≡◌, ℕ, true, false, List, [], ◌∷◌, ◌++◌, length, Result, Ok, Err, refl, sym, ap, subst, ◌∙◌}
 use Rattle.std.specs.Prelude.{IfOk, OnErr, OnOk}
 use Rattle.std.proofs.lemmas.Bool.{false≢true}
 use Rattle.pf_base.specs.declared.memory.NoMemory.{NoMemory}
 use Rattle.pf_host.specs.Facts.{HostFacts}
 use Rattle.pf_reply.specs.declared.refusal.Refusal.{Refusal}
-use Rattle.pf_reply.specs.declared.refusal.Refusal.TheVariants.{CannotRead}
 use Rattle.pf_reply.specs.declared.reply.Reply.TheVariants.{Hosts}
 use Rattle.pf_reply.specs.Refusals.{refusal_text}
 use Rattle.pf_reply.specs.Replies as replies
 use Rattle.pf_runs.specs.Runs.{Answers, Stepped, reply_text}
 use Rattle.pf_source.specs.Asks.{Asks}
 use Rattle.pf_source.specs.Disk.{Disk, without}
-use Rattle.pf_source.specs.Told.{FilesTold, Held, Told, file_of}
+use Rattle.pf_source.specs.Told.{FilesTold, Told, file_of}
 use Rattle.pf_state.specs.declared.machine.Machine.{Machine}
 use Rattle.pf_engine.specs.Answering.{Adds, AsksFor, DoesSo, MayFail, is_refused}
 use Rattle.pf_engine.specs.FilesRead.{outage_in, read_as, unread_as}
-use Rattle.pf_engine.specs.HostLines.{FactsIn, HostsDoes, TakesFacts, with_facts}
+use Rattle.pf_engine.specs.HostLines.{FactsIn, FactsMayCome, HostsDoes, TakesFacts, with_facts}
 use Rattle.pf_engine.specs.declared.loads.Read.{Read}
 use Rattle.pf_engine.specs.declared.loads.Read.TheVariants.{Is, Refused as NotRead}
 use Rattle.pf_engine.specs.declared.outcome.Outcome.{Outcome}
@@ -66,14 +65,14 @@ module _ (before after : Machine) (file : List ℕ) (answer : Result HostFacts R
   }
   hosts_asks (Err e) asks done = tt
 
-  pub hosts_whatever : (result : Result Outcome NoMemory) → ((name : List ℕ) → answer ≡ Err (CannotRead name) → name ≡ file) → IfOk result Done
+  pub hosts_whatever : (result : Result Outcome NoMemory) → FactsMayCome file answer → IfOk result Done
       → IfOk result (λ outcome. Adds old new (λ bytes. DoesSo (TakesFacts before file) after bytes (is_refused outcome)))
-  hosts_whatever (Ok outcome) named done = record {
+  hosts_whatever (Ok outcome) comes done = record {
     bytes = done.bytes;
     added = done.added;
-    is = record { does = done.is.does; so = record { answer = answer; named = named; is = done.is.so }; is = done.is.is };
+    is = record { does = done.is.does; so = record { answer = answer; comes = comes; is = done.is.so }; is = done.is.is };
   }
-  hosts_whatever (Err e) named done = tt
+  hosts_whatever (Err e) comes done = tt
 
   pub hosts_refused : (result : Result Outcome NoMemory) → IfOk result Done → result ≡ Ok Refused → after ≡ before
   hosts_refused (Ok outcome) done e =

@@ -1,5 +1,5 @@
 -- Refusals of judging are for no file, and what was judged is kept.
-use Rattle.std.proofs.Common.{◌≡◌, ℕ, ◌+◌, ◌<◌, ◌≤◌, lit<, lit≤, Bool, true, false, List, [], ◌∷◌, length, map, Option, Some, None, Result, Ok, Err, refl, sym, ap, ◌∙◌, subst, arith}
+use Rattle.std.proofs.Common.{◌≡◌, ℕ, ◌+◌, ◌<◌, ◌≤◌, lit<, true, false, List, [], ◌∷◌, length, map, Option, Some, None, refl, sym, ap, ◌∙◌, subst, arith}
 use Rattle.std.specs.Prelude.{◌==◌, nat_lt, nat_le, is_some, if◌then◌else◌}
 use Rattle.std.specs.FinMap as finite
 use Rattle.std.specs.List.{sum_by}
@@ -15,13 +15,13 @@ use Rattle.pf_reply.specs.declared.refusal.Refusal.{Refusal}
 use Rattle.pf_reply.specs.declared.refusal.Refusal.TheVariants as refusals
 use Rattle.pf_shelf.specs.Shelf.{total}
 use Rattle.pf_tree.specs.Order.{path_cmp}
-use Rattle.pf_state.specs.Commits.{committed, loaded, paths_of, placed}
+use Rattle.pf_state.specs.Commits.{committed, loaded, paths_of}
 use Rattle.pf_state.specs.Judging.{CommitJudged, Judged, LoadJudged, call_refusal}
 use Rattle.pf_state.specs.Limits.{first_of, limits, most_entries, most_rules, most_rulesets, over, planned_entries, planned_rules, plans_of, tree_limits}
 use Rattle.pf_state.specs.Rulesets.{Rulesets, count_entries, count_rules, graph_in}
 use Rattle.pf_state.specs.Machine.{empty_machine}
 use Rattle.pf_state.specs.Flushes.{flushed}
-use Rattle.pf_state.specs.Sessions.{closed, entry_refusal, finished, most_sessions, open_refusal, opened}
+use Rattle.pf_state.specs.Sessions.{entry_refusal, finished, most_sessions, open_refusal, opened}
 use Rattle.pf_state.specs.Tickets.{Tickets, stale, ticket_at}
 use Rattle.pf_state.specs.declared.machine.Machine.{Machine}
 use Rattle.pf_state.specs.declared.ready.Opened.{Opened}
@@ -155,7 +155,3 @@ empty_kept = record { entries = no_entries; drawn = lit< tt; shallow = empty_sha
 pub flushed_kept : (stays : FewerStays) (machine : Machine) (path : List (List ℕ)) → IsKept machine → IsKept (flushed path machine)
 flushed_kept stays machine path kept =
     let drawn = kept.drawn in let before = kept.entries in let few = flushed_fewer path machine.rulesets in record { entries = omega arith; drawn = omega arith; shallow = flush_shallow stays machine.rulesets path kept.shallow }
-
--- a session that is closed
-pub closed_kept : (machine : Machine) (name : List ℕ) → IsKept machine → IsKept (closed name machine)
-closed_kept machine name kept = record { entries = kept.entries; drawn = kept.drawn; shallow = kept.shallow }

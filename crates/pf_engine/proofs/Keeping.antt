@@ -1,8 +1,7 @@
 -- What is true of the machine between lines stays true over changes of tables and of facts.
-use Rattle.std.proofs.Common.{◌≡◌, ℕ, ◌<◌, ◌≤◌, cond, Bool, true, false, List, [], ◌∷◌, Option, Some, None, refl}
+use Rattle.std.proofs.Common.{◌≡◌, ℕ, ◌≤◌, cond, true, false, List, [], ◌∷◌, Option, Some, None, refl}
 use Rattle.std.specs.Prelude.{nat_lt}
 use Rattle.std.proofs.lemmas.Bool.{ltb-false}
-use Rattle.pf_host.specs.Facts.{HostFacts}
 use Rattle.pf_reply.specs.declared.refusal.Refusal.{Refusal}
 use Rattle.pf_shelf.specs.declared.change.ChangeKind.{ChangeKind}
 use Rattle.pf_state.specs.Limits.{first_of, most_entries, over}
@@ -32,6 +31,3 @@ change_keeps stays machine path name kind words kept allowed = record {
   drawn = kept.drawn;
   shallow = change_shallow stays machine.rulesets path name kind words kept.shallow;
 }
-
-pub facts_keep : (machine : Machine) (facts : HostFacts) → IsKept machine → IsKept (record machine { facts = facts })
-facts_keep machine facts kept = record { entries = kept.entries; drawn = kept.drawn; shallow = kept.shallow }

@@ -9,7 +9,6 @@ pub mod Doing
 pub mod Drawing
 pub mod Examples
 pub mod FactsFound
-pub mod FactsRead
 pub mod FactsTaken
 pub mod Faulted
 pub mod FewerEntries

@@ -1,26 +1,23 @@
 -- What was read for a line that loads, and what is done with it.
-use Rattle.std.proofs.Common.{◌≡◌, ℕ, ◌+◌, ◌≤◌, Bool, true, false, List, [], ◌∷◌, Option, Some, None, Result, Ok, Err, refl, sym, ap, ◌∙◌, subst, arith}
-use Rattle.pf_host.specs.Facts.{HostFacts}
+use Rattle.std.proofs.Common.{◌≡◌, ℕ, ◌+◌, ◌≤◌, Bool, true, List, [], Option, Some, None, Result, Ok, Err, refl, sym, ap, ◌∙◌, subst, arith}
 use Rattle.pf_reply.specs.Refusals.{unread_of}
 use Rattle.pf_reply.specs.declared.refusal.Refusal.{Refusal}
 use Rattle.pf_reply.specs.declared.reply.Reply.{Reply}
 use Rattle.pf_runs.specs.Runs.{Answers, Stepped}
 use Rattle.pf_script.specs.declared.command.LoadLine.{LoadLine}
 use Rattle.pf_source.specs.Asks.{Asks}
-use Rattle.pf_source.specs.AskingLaws.{nothing_asked}
 use Rattle.pf_source.specs.Disk.{Disk, without}
 use Rattle.pf_source.specs.Told.{FilesTold, Held, file_of}
 use Rattle.pf_state.specs.Commits.{loaded}
-use Rattle.pf_state.specs.Judging.{LoadJudged}
 use Rattle.pf_state.specs.Sessions.{entry_refusal, open_refusal, opened}
 use Rattle.pf_state.specs.declared.machine.Machine.{Machine}
 use Rattle.pf_state.specs.declared.ready.Ready.{Ready}
 use Rattle.pf_engine.specs.Answering.{AsksFor, DoesSo}
 use Rattle.pf_engine.specs.FilesRead.{outage_in, unread_as}
-use Rattle.pf_engine.specs.LoadLines.{CheckDoes, Checking, LineComes, LoadDoes, Loading, OpenBehind, OpenDoes, Opening, filled_of}
-use Rattle.pf_engine.specs.Steps.{done, done_unless, refused}
-use Rattle.pf_engine.specs.Whatever.{OpensSome, UsesSome}
-use Rattle.pf_engine.proofs.Asking.{AsksWell, ReadsNothing, answered, answered_alone, asks_for, asks_none, refused_asks, unless_asks, unless_unread}
+use Rattle.pf_engine.specs.LoadLines.{CheckDoes, Checking, LineComes, LoadDoes, Loading, OpenBehind, OpenDoes, Opening}
+use Rattle.pf_engine.specs.Steps.{done_unless, refused}
+use Rattle.pf_engine.specs.Whatever.{LineMayCome, OpensSome}
+use Rattle.pf_engine.proofs.Asking.{AsksWell, ReadsNothing, answered, answered_alone, asks_for, asks_none, refused_asks, unless_asks}
 use Rattle.pf_engine.proofs.Judged.{entry_nothing, load_nothing, open_nothing}
 
 -- What is known of what a command does with what was read.
@@ -135,5 +132,5 @@ pub entry_asks : (machine : Machine) (name : List ℕ) (refusal : Refusal) → S
 entry_asks machine name refusal e files bytes refuses so = asked_entry machine name refusal e files bytes refuses so
 
 -- one may be opened
-pub opens_some : (machine : Machine) (name : List ℕ) (does : Stepped Machine) (answer : Result Ready Refusal) → None ≡ entry_refusal machine name → Opening machine name answer does → OpensSome (entry_refusal machine name) machine name does
-opens_some machine name does answer e opening = subst (λ (o : Option Refusal). OpensSome o machine name does) e (record { answer = answer; using = opening })
+pub opens_some : (machine : Machine) (name : List ℕ) (line : LoadLine) (does : Stepped Machine) (answer : Result Ready Refusal) → None ≡ entry_refusal machine name → LineMayCome line answer → Opening machine name answer does → OpensSome (entry_refusal machine name) machine name line does
+opens_some machine name line does answer e comes opening = subst (λ (o : Option Refusal). OpensSome o machine name line does) e (record { answer = answer; comes = comes; using = opening })

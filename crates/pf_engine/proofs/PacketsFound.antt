@@ -87,10 +87,6 @@ from_dport = dport_key ∷ from_flags
 abbrev from_sport : List Key
 from_sport = sport_key ∷ from_dport
 
-all_keys : keys ≡ from_sport
-unfolding keys
-all_keys = refl
-
 -- a value that is given is one of the key's, and the protocol has the key
 abbrev IsSoundValue : ℕ → Key → Option (List ℕ) → Type 0
 IsSoundValue proto k None = Unit {0}

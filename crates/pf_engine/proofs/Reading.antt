@@ -1,31 +1,22 @@
 -- What files come to, with one that couldn't be read.
-use Rattle.std.proofs.Common.{◌≡◌, ℕ, ◌<◌, ◌≤◌, Bool, true, false, List, [], ◌∷◌, ◌++◌, length, Option, Some, None, Result, Ok, Err, refl, sym, ap, ◌∙◌, subst, arith}
-use Rattle.std.specs.Prelude.{nat_eq, nat_lt, if◌then◌else◌}
+use Rattle.std.proofs.Common.{◌≡◌, ℕ, Bool, true, false, List, [], ◌∷◌, ◌++◌, Option, Some, None, Result, Ok, Err, refl, sym, ap, ◌∙◌, subst, inr}
+use Rattle.std.specs.Prelude.{nat_eq, if◌then◌else◌}
 use Rattle.std.specs.Cmp.Lexicographic.{pointwise}
 use Rattle.std.specs.List.{AllZip}
-use Rattle.std.proofs.lemmas.Bool.{false≢true}
-use Rattle.std.proofs.lemmas.Bool.Decides.{Decides-eqb, nat_tests}
+use Rattle.std.proofs.lemmas.Bool.Decides.{Decides-eqb}
 use Rattle.std.proofs.lemmas.Slice.Eq.{slice_eq-Decides}
 use Rattle.pf_base.specs.Text.{lines_of, unfinished, whole_lines}
 use Rattle.pf_host.specs.Facts.{HostFacts}
-use Rattle.pf_optim.specs.Profile.{IsFaultAt, Says, said_lines}
+use Rattle.pf_optim.specs.Profile.{Says, said_lines}
 use Rattle.pf_optim.specs.declared.rows.Row.{Row}
-use Rattle.pf_reply.specs.Refusals.{unread_of}
 use Rattle.pf_reply.specs.declared.refusal.Refusal.{Refusal}
 use Rattle.pf_reply.specs.declared.refusal.Refusal.TheVariants as refusals
 use Rattle.pf_script.specs.declared.command.LoadLine.{LoadLine}
 use Rattle.pf_source.specs.Disk.{Disk, without}
-use Rattle.pf_source.specs.DiskLaws.{is_absent}
 use Rattle.pf_state.specs.declared.ready.Ready.{Ready}
-use Rattle.pf_engine.specs.Bounded.{IsFile, IsLarge}
 use Rattle.pf_engine.specs.FilesRead.{outage_in}
-use Rattle.pf_engine.specs.LoadLines.{FileComes, LineComes, ProfileIn, ProfileReads, ProfileSays, ProfileSized, most_bytes, options_of}
-
-within_bytes : (n : ℕ) → n ≤ most_bytes → nat_lt most_bytes n ≡ false
-within_bytes n h = grind (arith, nat_tests)
-
-past_bytes : (n : ℕ) → most_bytes < n → nat_lt most_bytes n ≡ true
-past_bytes n h = grind (arith, nat_tests)
+use Rattle.pf_engine.specs.LoadLines.{FileComes, LineComes, ProfileIn, ProfileReads, ProfileSays, options_of}
+use Rattle.pf_engine.specs.Whatever.{FileMayCome, LineMayCome}
 
 -- the lines of nothing say no row
 no_lines : lines_of [] ≡ []
@@ -47,29 +38,10 @@ nothing_says (Ok rows) says = ap (λ (rows : List Row). Ok rows) (no_rows (lines
 nothing_says (Err (refusals.ProfileFault line)) fault = absurd (no_fault fault.before fault.line fault.behind (sym no_lines ∙ fault.is))
 nothing_says (Err refusal) says = absurd says
 
--- the profile of a file that was read
-profile_said : (disk : Disk) (name text : List ℕ) (answer : Result (List Row) Refusal) → disk name ≡ Some text → length text ≤ most_bytes → ProfileSays text answer → ProfileIn name (disk name) answer
-profile_said disk name text answer is fits says =
-    subst (λ (held : Option (List ℕ)). ProfileIn name held answer) (sym is)
-    (subst (λ (b : Bool). ProfileSized b text answer) (sym (within_bytes (length text) fits)) says)
-
-pub profile_read : (disk : Disk) (name text : List ℕ) (answer : Result (List Row) Refusal) → IsFile (disk name) text → ProfileSays text answer → ProfileIn name (without (outage_in answer) disk name) answer
-profile_read disk name text (Ok rows) file says = profile_said disk name text (Ok rows) file.is file.fits says
-profile_read disk name text (Err (refusals.ProfileFault line)) file says = profile_said disk name text (Err (refusals.ProfileFault line)) file.is file.fits says
-profile_read disk name text (Err refusal) file says = absurd says
-
--- of one that is too large
-pub profile_large : (disk : Disk) (name : List ℕ) → IsLarge (disk name) → ProfileIn name (disk name) (Err (refusals.ProfileFault 0))
-profile_large disk name large =
-    let answer : Result (List Row) Refusal = Err (refusals.ProfileFault 0) in
-    subst (λ (held : Option (List ℕ)). ProfileIn name held answer) (sym large.is)
-    (subst (λ (b : Bool). ProfileSized b large.text answer) (sym (past_bytes (length large.text) large.over)) refl)
-
--- of one that couldn't be read
-pub profile_lost : (disk : Disk) (name : List ℕ) → ProfileIn name (without (Some name) disk name) (Err (refusals.CannotRead name))
-profile_lost disk name =
-    let answer : Result (List Row) Refusal = Err (refusals.CannotRead name) in
-    subst (λ (held : Option (List ℕ)). ProfileIn name held answer) (sym (is_absent disk name)) refl
+-- the profile comes to rows, and then the file to what it may
+pub file_comes : (line : LoadLine) (answer : Result Ready Refusal) → FileMayCome answer → LineMayCome line answer
+file_comes line (Ok ready) few = few
+file_comes line (Err refusal) h = inr h
 
 -- Where the file of a line couldn't be read behind its profile, the profile is as it was, unless it is that very file.
 lost_behind : (disk : Disk) (facts : HostFacts) (line : LoadLine) (rows : List Row) (name : List ℕ) (profile : Option (List ℕ)) → profile ≡ line.profile → ProfileReads disk profile (Ok rows) → FileComes (without (Some name) disk) facts (options_of line) line.file rows (Err (refusals.CannotRead name)) → LineComes (without (Some name) disk) facts line (Err (refusals.CannotRead name))

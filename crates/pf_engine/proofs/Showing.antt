@@ -1,6 +1,5 @@
 -- Lists as replies, and the names of the rulesets right below a path.
-use Rattle.std.proofs.Common.{◌≡◌, ℕ, ◌+◌, ◌<◌, Bool, true, false, cond, not, T, List, [], ◌∷◌, ◌++◌, map, length, Option, Some, None, Result, zero, suc, refl, sym, ap, subst, ◌∙◌, append_assoc, arith, if◌then◌else◌, Vec, Global}
-use Rattle.std.specs.Prelude.{IfOk}
+use Rattle.std.proofs.Common.{◌≡◌, ℕ, ◌+◌, ◌<◌, Bool, true, false, cond, not, T, List, [], ◌∷◌, ◌++◌, map, length, Option, Some, None, zero, suc, refl, sym, ap, subst, ◌∙◌, append_assoc, arith, if◌then◌else◌}
 use Rattle.std.proofs.lemmas.Bool.{and_parts, false≢true}
 use Rattle.std.specs.Cmp.{tied_itself}
 use Rattle.std.specs.FinMap as fin
@@ -11,7 +10,6 @@ use Rattle.std.specs.Ordering.{is_lt, ordering_reverse}
 use Rattle.std.specs.declared.cmp.Ordering.{Ordering}
 use Rattle.std.specs.declared.cmp.Ordering.TheVariants.{Less, Equal, Greater}
 use Rattle.pf_base.specs.Path.{is_reserved}
-use Rattle.pf_base.specs.declared.memory.NoMemory.{NoMemory}
 use Rattle.pf_eval.specs.Rulesets.{Rulesets}
 use Rattle.pf_eval.specs.Steps.{names_after}
 use Rattle.pf_reply.specs.Replies as replies
@@ -42,12 +40,6 @@ pub list_is : (listing : Listing) (count : ℕ) (lines : List (List ℕ)) (head 
 list_is listing count lines head all h a n =
     a ∙ ap (λ (t : List ℕ). t ++ reply_text lines) (h ∙ none_more (replies.reply_text (Listed listing count) ++ 10 ∷ []))
     ∙ ap (λ (k : ℕ). (replies.reply_text (Listed listing k) ++ 10 ∷ []) ++ reply_text lines) n
-
--- a list without lines
-pub no_list : (listing : Listing) (lines : List (List ℕ)) (all : List ℕ)
-    → all ≡ reply_text (replies.reply_text (Listed listing 0) ∷ []) → lines ≡ []
-    → all ≡ reply_text (list_text listing lines)
-no_list listing lines all a n = a ∙ ap (λ (ls : List (List ℕ)). reply_text (list_text listing ls)) (sym n)
 
 -- ---- the child names behind one, in byte order
 
@@ -197,10 +189,6 @@ show_done machine (shows.Anchors path) = refl
 show_done machine (shows.Skips path) = refl
 show_done machine shows.Queues = refl
 show_done machine shows.Options = refl
-
--- the same list
-pub same_list : (listing : Listing) (result : Result (Vec ℕ Global) NoMemory) (xs ys : List (List ℕ)) → xs ≡ ys → IfOk result (λ reply. reply.items ≡ reply_text (list_text listing xs)) → IfOk result (λ reply. reply.items ≡ reply_text (list_text listing ys))
-same_list listing result xs ys e h = subst (λ (lines : List (List ℕ)). IfOk result (λ reply. reply.items ≡ reply_text (list_text listing lines))) e h
 
 -- ---- where there is no ruleset
 

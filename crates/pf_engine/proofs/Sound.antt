@@ -1,20 +1,26 @@
--- The plan of a load is one whose rulesets can be optimised.
-use Rattle.std.proofs.Common.{◌≡◌, ℕ, ◌≤◌, Bool, true, false, ◌&&◌, List, [], ◌∷◌, length, refl, sym, ap, ◌∙◌, arith}
+-- The plan of a load is one whose rulesets can be optimised, and has few rules in each.
+use Rattle.std.proofs.Common.{◌≡◌, ℕ, ◌≤◌, Bool, true, false, ◌&&◌, List, [], ◌∷◌, length, map, Ok, refl, sym, subst, arith}
 use Rattle.std.specs.Prelude.{nat_le}
 use Rattle.std.specs.List.{list_all}
 use Rattle.std.proofs.lemmas.Bool.{false≢true}
 use Rattle.std.proofs.lemmas.Bool.Decides.{nat_tests}
+use Rattle.pf_base.specs.declared.kind.Level.{Level}
 use Rattle.pf_auto.specs.Standing.{names_none, test_names_between}
 use Rattle.pf_expand.specs.Written.{has_no_auto, tests_no_auto}
 use Rattle.pf_load.specs.Fit.{are_written, is_part_fit, is_plan_fit}
 use Rattle.pf_optim.specs.Meaning as optim
+use Rattle.pf_optim.specs.Ruleset.{written_of}
+use Rattle.pf_optim.specs.declared.rows.Row.{Row}
 use Rattle.pf_plan.specs.declared.plan.Part.{Part}
 use Rattle.pf_plan.specs.declared.plan.Plan.{Plan}
 use Rattle.pf_rule.specs.declared.criteria.AddrSet.TheVariants.{Prefix, Range, Table, Dynamic, Auto}
 use Rattle.pf_rule.specs.declared.criteria.AddrTest.{AddrTest}
 use Rattle.pf_rule.specs.declared.criteria.AddrTest.TheVariants as address
 use Rattle.pf_rule.specs.declared.rule.Rule.{Rule}
+use Rattle.pf_state.specs.Commits.{ready_of, staged_of}
 use Rattle.pf_state.specs.Sound.{AreSound, IsPartSound, IsPlanSound}
+use Rattle.pf_state.specs.declared.ready.Ready.{Ready}
+use Rattle.pf_engine.specs.Whatever.{FileMayCome, HaveFewRules}
 
 pub first_holds : (a b : Bool) → (a && b) ≡ true → a ≡ true
 first_holds true b h = refl
@@ -63,3 +69,15 @@ parts_sound (part ∷ parts) h =
 
 pub plan_sound : (plan : Plan) → is_plan_fit plan ≡ true → IsPlanSound plan
 plan_sound plan h = parts_sound plan.parts h
+
+-- made ready, it has as few
+few_written : (rules : List Rule) (level : Level) (weights : List ℕ) → length rules ≤ 16384 → length (written_of rules level weights).rules ≤ 16384
+few_written [] level weights h = h
+few_written (rule ∷ rules) level weights h = h
+
+few_staged : (level : Level) (rows : List Row) (parts : List Part) → AreSound parts → HaveFewRules (map (staged_of level rows) parts)
+few_staged level rows [] sound = tt
+few_staged level rows (part ∷ parts) sound = (few_written part.rules level _ sound.0.few, few_staged level rows parts sound.1)
+
+pub few_ready : (rows : List Row) (plan : Plan) (ready : Ready) → is_plan_fit plan ≡ true → ready ≡ ready_of rows plan → FileMayCome (Ok ready)
+few_ready rows plan ready fit is = subst (λ (r : Ready). HaveFewRules r.parts) (sym is) (few_staged plan.level rows plan.parts (plan_sound plan fit))

@@ -41,8 +41,16 @@ pub record HostsDoes (disk : Disk) (machine : Machine) (file : List ℕ) (does :
   pub reads : FactsIn file (disk file) answer
   pub is : does ≡ with_facts machine answer
 
--- The file comes to facts or to a refusal, whatever it holds; it is the one that can't be read.
+-- what a facts file may come to, whatever it holds: some facts, or a refusal, since it can't be read, is too large, or a line of it is outside
+-- the form
+abbrev pub FactsMayCome : List ℕ → Result HostFacts Refusal → Type 0
+FactsMayCome file (Ok facts) = Unit {0}
+FactsMayCome file (Err (refusals.CannotRead name)) = name ≡ file
+FactsMayCome file (Err (refusals.FactsFault line)) = Unit {0}
+FactsMayCome file (Err refusal) = ⊥
+
+-- the file comes to some facts or to a refusal for it, and this is done with it
 pub record TakesFacts (machine : Machine) (file : List ℕ) (does : Stepped Machine) : Type 0 where
   pub answer : Result HostFacts Refusal
-  pub named : (name : List ℕ) → answer ≡ Err (refusals.CannotRead name) → name ≡ file
+  pub comes : FactsMayCome file answer
   pub is : does ≡ with_facts machine answer

@@ -1,5 +1,5 @@
-//! Files of one line each: a profile, and the facts of the host.
-ghost use Rattle.std.specs.Prelude.{◌≡◌, ◌≤◌, List, [], ◌∷◌, IfOk, length};
+//! Files that a script line names and that are read whole: a profile, and the facts of the host.
+ghost use Rattle.std.specs.Prelude.{IfOk};
 ghost use Rattle.pf_source.specs.Asks.{Asks};
 ghost use Rattle.pf_source.specs.Told.{Told, file_of};
 ghost use Rattle.pf_engine.specs.Bounded.{FileIs, unread_in};

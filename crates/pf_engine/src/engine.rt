@@ -1,5 +1,5 @@
 //! The engine: a machine, and its step for each line.
-ghost use Rattle.std.specs.Prelude.{◌≡◌, ◌+◌, ◌<◌, ◌≤◌, ◌-◌, ◌^◌, ◌++◌, [], ◌∷◌, Ok, IfOk, OnErr, OnOk, false};
+ghost use Rattle.std.specs.Prelude.{◌≡◌, ◌+◌, ◌<◌, ◌≤◌, ◌-◌, ◌^◌, Ok, IfOk, OnErr, false};
 ghost use Rattle.pf_source.specs.Told.{Told, file_of};
 ghost use Rattle.pf_runs.specs.Runs.{Answers};
 ghost use Rattle.pf_engine.specs.Answering.{Adds, AsksFor, DoesAlone, DoesSo, MayFail, is_refused, reads_files};

@@ -1,5 +1,5 @@
 //! `hosts` lines: what is known of the host is what a facts file says.
-ghost use Rattle.std.specs.Prelude.{◌≡◌, ℕ, List, [], IfOk, OnErr, Ok, Err};
+ghost use Rattle.std.specs.Prelude.{◌≡◌, [], IfOk, OnErr, Ok};
 ghost use Rattle.pf_runs.specs.Runs.{Answers};
 ghost use Rattle.pf_source.specs.Asks.{Asks};
 ghost use Rattle.pf_source.specs.Disk.{without};
@@ -7,8 +7,7 @@ ghost use Rattle.pf_source.specs.Told.{Told, file_of};
 ghost use Rattle.pf_engine.specs.Answering.{Adds, AsksFor, DoesSo, MayFail, is_refused};
 ghost use Rattle.pf_engine.specs.FilesRead.{outage_in, read_as, unread_by};
 ghost use Rattle.pf_engine.specs.Kept.{IsKept};
-ghost use Rattle.pf_engine.specs.HostLines.{FactsIn, FactsSay, HostsDoes, TakesFacts, with_facts};
-ghost use Rattle.pf_reply.specs.declared.refusal.Refusal.TheVariants.{CannotRead};
+ghost use Rattle.pf_engine.specs.HostLines.{FactsIn, FactsMayCome, FactsSay, HostsDoes, TakesFacts, with_facts};
 
 use crate::bounded::{Bounded, read_bounded};
 use crate::engine::Engine;
@@ -38,7 +37,7 @@ fn facts_in(alloc: Global, text: &[u8]) -> Result<Read<Facts>, NoMemory>
 fn facts_of<F: Files>(alloc: Global, files: &mut F, file: Text) -> Result<Read<Facts>, NoMemory>
     ensures means { IfOk result (λ read. Told (F.tells files.old).held (λ held. FactsIn file ((without (outage_in (read_as read)) (file_of held)) file) (read_as read))) }
     ensures asks { Asks (unread_by result) (F.tells files.old) (F.tells files.new) }
-    ensures named { IfOk result (λ read. (name : List ℕ) → read_as read ≡ Err (CannotRead name) → name ≡ file) }
+    ensures comes { IfOk result (λ read. FactsMayCome file (read_as read)) }
 {
     match read_bounded(alloc, files, &file)? {
         Bounded::Bytes(text) => facts_in(alloc, text.items()),

@@ -4,12 +4,11 @@ ghost use Rattle.pf_source.specs.Asks.{Asks};
 ghost use Rattle.pf_source.specs.Disk.{without};
 ghost use Rattle.pf_source.specs.Told.{Told, file_of};
 ghost use Rattle.pf_runs.specs.Runs.{Answers};
-ghost use Rattle.pf_state.specs.Sound.{IsPlanSound};
 ghost use Rattle.pf_engine.specs.Answering.{Adds, AsksFor, DoesSo, MayFail, is_refused};
 ghost use Rattle.pf_engine.specs.LoadLines.{CheckDoes, Checking, FileComes, LineComes, LoadDoes, Loading, OpenDoes, Opening, ProfileReads, ProfileSays};
 ghost use Rattle.pf_engine.specs.LoadLines as says;
 ghost use Rattle.pf_engine.specs.FilesRead.{outage_in, read_as, unread_by};
-ghost use Rattle.pf_engine.specs.Whatever.{OpensSome, UsesSome};
+ghost use Rattle.pf_engine.specs.Whatever.{FileMayCome, LineMayCome, OpensSome, ProfileMayCome, UsesSome};
 ghost use Rattle.pf_state.specs.Sessions.{entry_refusal};
 
 use crate::bounded::{Bounded, read_bounded};
@@ -42,6 +41,7 @@ fn profile_of<F: Files>(
     name: Option<Text>,
 ) -> Result<Read<Profile>, NoMemory>
     ensures means { IfOk result (λ read. Told (F.tells files.old).held (λ held. ProfileReads (without (outage_in (read_as read)) (file_of held)) name (read_as read))) }
+    ensures comes { IfOk result (λ read. ProfileMayCome name (read_as read)) }
     ensures asks { Asks (unread_by result) (F.tells files.old) (F.tells files.new) }
 {
     let Some(name) = name else {
@@ -82,6 +82,7 @@ fn ready_of<F: Files>(
     line: LoadLine,
 ) -> Result<Read<Ready>, NoMemory>
     ensures means { IfOk result (λ read. Told (F.tells files.old).held (λ held. LineComes (without (outage_in (read_as read)) (file_of held)) facts.now line (read_as read))) }
+    ensures comes { IfOk result (λ read. LineMayCome line (read_as read)) }
     ensures asks { Asks (unread_by result) (F.tells files.old) (F.tells files.new) }
 {
     let LoadLine {
@@ -112,6 +113,7 @@ fn loaded_by<F: Files>(
     profile: &Profile,
 ) -> Result<Read<Ready>, NoMemory>
     ensures means { IfOk result (λ read. Told (F.tells files.old).held (λ held. FileComes (without (outage_in (read_as read)) (file_of held)) facts.now options.now file.now profile.now (read_as read))) }
+    ensures comes { IfOk result (λ read. FileMayCome (read_as read)) }
     ensures asks { Asks (unread_by result) (F.tells files.old) (F.tells files.new) }
 {
     match load(alloc, files, facts, options, file) {
@@ -156,7 +158,7 @@ impl Engine {
         requires next { self.old.next < 2 ^ 64 - 1 }
         ensures answers { IfOk result (λ outcome. Told (F.tells files.old).held (λ held. Adds out.old.items out.new.items (λ bytes.
             Answers (λ disk machine name does. LoadDoes disk machine line does) (file_of held) [] self.old (F.tells files.old) self.new (F.tells files.new) bytes (is_refused outcome)))) }
-        ensures whatever { IfOk result (λ outcome. Adds out.old.items out.new.items (λ bytes. DoesSo (UsesSome (Loading self.old)) self.new bytes (is_refused outcome))) }
+        ensures whatever { IfOk result (λ outcome. Adds out.old.items out.new.items (λ bytes. DoesSo (UsesSome line (Loading self.old)) self.new bytes (is_refused outcome))) }
         ensures asks { IfOk result (λ outcome. Adds out.old.items out.new.items (λ bytes. AsksFor self.old self.new (F.tells files.old) (F.tells files.new) bytes (is_refused outcome))) }
         ensures refused { result ≡ Ok Outcome.Refused → self.new ≡ self.old }
         ensures drawn { self.new.next ≤ self.old.next + 1 }
@@ -204,7 +206,7 @@ impl Engine {
     ) -> Result<Outcome, NoMemory>
         ensures answers { IfOk result (λ outcome. Told (F.tells files.old).held (λ held. Adds out.old.items out.new.items (λ bytes.
             Answers (λ disk machine name does. CheckDoes disk machine line does) (file_of held) [] self.now (F.tells files.old) self.now (F.tells files.new) bytes (is_refused outcome)))) }
-        ensures whatever { IfOk result (λ outcome. Adds out.old.items out.new.items (λ bytes. DoesSo (UsesSome (Checking self.now)) self.now bytes (is_refused outcome))) }
+        ensures whatever { IfOk result (λ outcome. Adds out.old.items out.new.items (λ bytes. DoesSo (UsesSome line (Checking self.now)) self.now bytes (is_refused outcome))) }
         ensures asks { IfOk result (λ outcome. Adds out.old.items out.new.items (λ bytes. AsksFor self.now self.now (F.tells files.old) (F.tells files.new) bytes (is_refused outcome))) }
         ensures fails { OnErr result (MayFail (F.tells files.old) (F.tells files.new)) }
         ensures silent { OnErr result (out.new.items ≡ out.old.items) }
@@ -249,7 +251,7 @@ impl Engine {
         requires next { self.old.next < 2 ^ 64 - 1 }
         ensures answers { IfOk result (λ outcome. Told (F.tells files.old).held (λ held. Adds out.old.items out.new.items (λ bytes.
             Answers (λ disk machine _ does. OpenDoes disk machine name line does) (file_of held) [] self.old (F.tells files.old) self.new (F.tells files.new) bytes (is_refused outcome)))) }
-        ensures whatever { IfOk result (λ outcome. Adds out.old.items out.new.items (λ bytes. DoesSo (OpensSome (entry_refusal self.old name) self.old name) self.new bytes (is_refused outcome))) }
+        ensures whatever { IfOk result (λ outcome. Adds out.old.items out.new.items (λ bytes. DoesSo (OpensSome (entry_refusal self.old name) self.old name line) self.new bytes (is_refused outcome))) }
         ensures asks { IfOk result (λ outcome. Adds out.old.items out.new.items (λ bytes. AsksFor self.old self.new (F.tells files.old) (F.tells files.new) bytes (is_refused outcome))) }
         ensures refused { result ≡ Ok Outcome.Refused → self.new ≡ self.old }
         ensures drawn { self.new.next ≤ self.old.next + 1 }

@@ -1,5 +1,5 @@
 //! `test` lines: what the rulesets answer to a packet.
-ghost use Rattle.std.specs.Prelude.{◌≡◌, [], ◌∷◌, IfOk, OnErr};
+ghost use Rattle.std.specs.Prelude.{◌≡◌, ◌++◌, [], ◌∷◌, IfOk, OnErr, OnOk};
 ghost use Rattle.pf_record.specs.AnswerText.{answer_text};
 ghost use Rattle.pf_runs.specs.Runs.{reply_text};
 ghost use Rattle.pf_engine.specs.Answering.{Adds, DoesSo, is_refused};
@@ -7,7 +7,7 @@ ghost use Rattle.pf_engine.specs.TestLines.{TestDoes, asked};
 
 use crate::engine::Engine;
 use crate::outcome::Outcome;
-use crate::telling::{refuse, tell};
+use crate::telling::refuse;
 use pf_base::NoMemory;
 use pf_record::{PacketFault, put_answer, read_packet};
 use pf_reply::Refusal;
@@ -15,15 +15,18 @@ use pf_rule::Packet;
 use std::alloc::Global;
 
 impl Engine {
-    // The line that tells the answer to a packet.
-    fn answer_line(&self, alloc: Global, packet: &Packet) -> Result<Vec<u8>, NoMemory>
-        ensures { IfOk result (λ line. line.items ≡ reply_text (answer_text (asked self.now packet.now) ∷ [])) }
+    // Tells the answer to a packet, right behind what stands in the output.
+    fn tell_answer(&self, packet: &Packet, out: &mut Vec<u8>) -> Result<(), NoMemory>
+        ensures told { OnOk result (out.new.items ≡ out.old.items ++ reply_text (answer_text (asked self.now packet.now) ∷ [])) }
+        ensures silent { OnErr result (out.new.items ≡ out.old.items) }
     {
-        let answer = self.ask(packet);
-        let mut line = Vec::new(alloc);
-        put_answer(&mut line, &answer)?;
-        line.push(b'\n')?;
-        Ok(line)
+        let before = out.len();
+        put_answer(out, &self.ask(packet))?;
+        if out.push(b'\n').is_err() {
+            out.truncate(before);
+            return Err(NoMemory);
+        }
+        Ok(())
     }
 
     // A packet's record is read, and the answer to the packet is told.
@@ -38,7 +41,7 @@ impl Engine {
     {
         match read_packet(text) {
             Ok(packet) => {
-                tell(out, &self.answer_line(alloc, &packet)?)?;
+                self.tell_answer(&packet, out)?;
                 Ok(Outcome::Done)
             }
             Err(PacketFault(field)) => refuse(alloc, out, &Refusal::BadPacket(field)),

@@ -1,5 +1,5 @@
 //! `show` lines (pfctl(8), -s): a reply is made whole in a buffer of its own, and then told.
-ghost use Rattle.std.specs.Prelude.{◌≡◌, [], ◌∷◌, ◌++◌, IfOk, OnErr, OnOk, length, map, if◌then◌else◌};
+ghost use Rattle.std.specs.Prelude.{◌≡◌, [], ◌∷◌, ◌++◌, IfOk, OnErr, OnOk, map, if◌then◌else◌};
 ghost use Rattle.std.specs.Option.{option_copied};
 ghost use Rattle.pf_base.specs.Path.{is_reserved};
 ghost use Rattle.pf_engine.specs.Answering.{Adds, DoesSo, is_refused};

@@ -1,5 +1,5 @@
 //! `table` lines (pfctl(8), -T): the words are read first, then the table is looked for.
-ghost use Rattle.std.specs.Prelude.{◌≡◌, ◌+◌, ◌≤◌, ◌++◌, [], ◌∷◌, IfOk, OnErr, OnOk, count_by, vec_capacity, vec_len};
+ghost use Rattle.std.specs.Prelude.{◌≡◌, ◌+◌, ◌≤◌, ◌++◌, [], ◌∷◌, IfOk, OnErr, count_by, vec_capacity, vec_len};
 ghost use Rattle.std.specs.Option.{option_copied, option_map};
 ghost use Rattle.pf_addr.specs.Grammar.{IsAddrText};
 ghost use Rattle.pf_reply.specs.Replies as replies;

@@ -1,4 +1,4 @@
-use Rattle.std.proofs.Common.{◌≡◌, List, [], subst}
+use Rattle.std.proofs.Common.{◌≡◌, [], subst}
 use Rattle.pf_runs.specs.Runs.{Answers}
 use Rattle.pf_source.specs.Disk.{without}
 use Rattle.pf_source.specs.Told.{file_of}
@@ -26,8 +26,8 @@ pub returns-clause-whatever : goal.returns-clause-whatever
 returns-clause-whatever g c =
     let machine = c.args.self.now in let answer = read_as c.in_ok-read.read in
     adds_too c.check_read.result c.args.out.now.items c.check_read.new.out.items (λ bytes refuses. DoesSo (Checking machine answer) machine bytes refuses)
-    (λ bytes refuses. DoesSo (UsesSome (Checking machine)) machine bytes refuses)
-    (λ bytes refuses so. record { does = so.does; so = record { answer = answer; using = so.so }; is = so.is })
+    (λ bytes refuses. DoesSo (UsesSome c.args.line (Checking machine)) machine bytes refuses)
+    (λ bytes refuses so. record { does = so.does; so = record { answer = answer; comes = c.in_ok-read.ensures.comes; using = so.so }; is = so.is })
     c.check_read.ensures.answers
 
 pub returns-clause-asks : goal.returns-clause-asks

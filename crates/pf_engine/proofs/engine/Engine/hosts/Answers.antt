@@ -16,7 +16,7 @@ returns-clause-answers g c =
 pub returns-clause-whatever : goal.returns-clause-whatever
 returns-clause-whatever g c =
     hosts_whatever c.args.self.now c.take_facts.new.machine c.args.file (read_as c.in_ok-read.read) (g.F.Files.tells c.args.files.now) (g.F.Files.tells c.facts_of.new.files) c.args.out.now.items c.take_facts.new.out.items c.take_facts.result
-    c.in_ok-read.ensures.named
+    c.in_ok-read.ensures.comes
     (subst (λ (m : Machine). IfOk c.take_facts.result (λ outcome. Adds c.args.out.now.items c.take_facts.new.out.items (λ bytes. DoesSo (λ does. does ≡ with_facts m (read_as c.in_ok-read.read)) c.take_facts.new.machine bytes (is_refused outcome)))) c.self.view_is c.take_facts.ensures.answers)
 
 pub returns-clause-asks : goal.returns-clause-asks

@@ -1,7 +1,7 @@
-use Rattle.std.proofs.Common.{◌≡◌, ℕ, ◌+◌, ◌≤◌, true, List, [], refl, subst, sym, arith}
+use Rattle.std.proofs.Common.{◌≡◌, ◌+◌, ◌≤◌, true, [], refl, subst, sym, arith}
 use Rattle.pf_runs.specs.Runs.{Answers}
 use Rattle.pf_source.specs.Disk.{without}
-use Rattle.pf_source.specs.Told.{Held, file_of}
+use Rattle.pf_source.specs.Told.{file_of}
 use Rattle.pf_state.specs.declared.machine.Machine.{Machine}
 use Rattle.pf_engine.specs.Answering.{AsksFor, DoesSo}
 use Rattle.pf_engine.specs.FilesRead.{outage_in, read_as, unread_as}
@@ -26,8 +26,8 @@ pub returns-clause-whatever : goal.returns-clause-whatever
 returns-clause-whatever g c =
     let machine = c.args.self.now in let after = c.load_read.new.self in let answer = read_as c.in_ok-read.read in
     adds_too c.load_read.result c.args.out.now.items c.load_read.new.out.items (λ bytes refuses. DoesSo (Loading machine answer) after bytes refuses)
-    (λ bytes refuses. DoesSo (UsesSome (Loading machine)) after bytes refuses)
-    (λ bytes refuses so. record { does = so.does; so = record { answer = answer; using = so.so }; is = so.is })
+    (λ bytes refuses. DoesSo (UsesSome c.args.line (Loading machine)) after bytes refuses)
+    (λ bytes refuses so. record { does = so.does; so = record { answer = answer; comes = c.in_ok-read.ensures.comes; using = so.so }; is = so.is })
     c.load_read.ensures.answers
 
 pub returns-clause-asks : goal.returns-clause-asks

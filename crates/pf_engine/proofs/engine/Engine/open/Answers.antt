@@ -1,4 +1,4 @@
-use Rattle.std.proofs.Common.{◌≡◌, ℕ, ◌+◌, ◌≤◌, Bool, true, List, [], Option, Some, None, refl, subst, sym, arith}
+use Rattle.std.proofs.Common.{◌≡◌, ◌+◌, ◌≤◌, true, [], Option, Some, None, refl, subst, sym, arith}
 use Rattle.pf_runs.specs.Runs.{Answers, Stepped}
 use Rattle.pf_source.specs.Disk.{without}
 use Rattle.pf_source.specs.Told.{file_of}
@@ -8,8 +8,8 @@ use Rattle.pf_state.specs.declared.machine.Machine.{Machine}
 use Rattle.pf_engine.specs.Answering.{AsksFor, DoesSo}
 use Rattle.pf_engine.specs.FilesRead.{outage_in, read_as, unread_as}
 use Rattle.pf_engine.specs.LoadLines.{OpenDoes, Opening, LineComes}
-use Rattle.pf_engine.specs.Whatever.{OpensSome, UsesSome}
-use Rattle.pf_engine.proofs.Asking.{asked_nothing, asks_none, few_unread, may_fail, refused_asks}
+use Rattle.pf_engine.specs.Whatever.{OpensSome}
+use Rattle.pf_engine.proofs.Asking.{asked_nothing, few_unread, may_fail}
 use Rattle.pf_engine.proofs.Doing.{refused_so}
 use Rattle.pf_engine.proofs.Loading.{asks_so, draws_so, entry_answers, entry_asks, open_answers, opening_uses, opens_some, same_so}
 use Rattle.pf_engine.proofs.Results.{adds_refused, adds_told, adds_too, in_either, on_err}
@@ -35,8 +35,8 @@ returns-in-Some-clause-whatever g c =
     let same : c.self.inside.machine ≡ c.args.self.now = cc in
     let entry : Some c.in-Some.refusal ≡ entry_refusal c.args.self.now c.args.name = subst (λ (m : Machine). Some c.in-Some.refusal ≡ entry_refusal m c.args.name) same c.in-Some.ensures in
     let machine = c.args.self.now in let name = c.args.name in let refusal = c.in-Some.refusal in
-    refused_so (OpensSome (entry_refusal machine name) machine name) machine refusal c.refuse.result c.args.out.now.items c.refuse.new.out.items
-    (subst (λ (o : Option Refusal). OpensSome o machine name (refused machine refusal)) entry refl) c.refuse.ensures.refused c.refuse.ensures.told
+    refused_so (OpensSome (entry_refusal machine name) machine name c.args.line) machine refusal c.refuse.result c.args.out.now.items c.refuse.new.out.items
+    (subst (λ (o : Option Refusal). OpensSome o machine name c.args.line (refused machine refusal)) entry refl) c.refuse.ensures.refused c.refuse.ensures.told
 
 pub returns-in-Some-clause-asks : goal.returns-in-Some-clause-asks
 returns-in-Some-clause-asks g c =
@@ -72,8 +72,8 @@ returns-in_ok-read-in-None-clause-whatever g c =
     let free : None ≡ entry_refusal c.args.self.now c.args.name = subst (λ (m : Machine). None ≡ entry_refusal m c.args.name) same c.in-None.ensures in
     let machine = c.args.self.now in let after = c.open_read.new.self in let name = c.args.name in let answer = read_as c.in_ok-read-in-None.read in
     adds_too c.open_read.result c.args.out.now.items c.open_read.new.out.items (λ bytes refuses. DoesSo (Opening machine name answer) after bytes refuses)
-    (λ bytes refuses. DoesSo (OpensSome (entry_refusal machine name) machine name) after bytes refuses)
-    (λ bytes refuses so. record { does = so.does; so = opens_some machine name so.does answer free so.so; is = so.is })
+    (λ bytes refuses. DoesSo (OpensSome (entry_refusal machine name) machine name c.args.line) after bytes refuses)
+    (λ bytes refuses so. record { does = so.does; so = opens_some machine name c.args.line so.does answer free c.in_ok-read-in-None.ensures.comes so.so; is = so.is })
     c.open_read.ensures.answers
 
 pub returns-in_ok-read-in-None-clause-asks : goal.returns-in_ok-read-in-None-clause-asks

@@ -1,4 +1,4 @@
-use Rattle.std.proofs.Common.{◌≡◌, ℕ, ◌+◌, ◌≤◌, Bool, true, false, List, [], Option, Some, None, inl, refl, sym, ap, ◌∙◌, subst, arith}
+use Rattle.std.proofs.Common.{◌≡◌, ℕ, ◌+◌, ◌≤◌, false, List, [], Some, None, inl, refl, sym, ap, ◌∙◌, subst, arith}
 use Rattle.pf_reply.specs.declared.refusal.Refusal.TheVariants.{BadCommand}
 use Rattle.pf_runs.specs.Runs.{Answers, Stepped}
 use Rattle.pf_script.specs.Command.{command_of}
@@ -10,7 +10,7 @@ use Rattle.pf_state.specs.declared.machine.Machine.{Machine}
 use Rattle.pf_engine.specs.Answering.{AsksFor, DoesAlone, DoesSo, reads_files}
 use Rattle.pf_engine.specs.HostLines.{HostsDoes, TakesFacts}
 use Rattle.pf_engine.specs.Laws.{ChangesNothing}
-use Rattle.pf_engine.specs.LoadLines.{CheckDoes, Checking, LoadDoes, Loading, OpenDoes, Opening}
+use Rattle.pf_engine.specs.LoadLines.{CheckDoes, Checking, LoadDoes, Loading, OpenDoes}
 use Rattle.pf_engine.specs.SessionLines.{CommitDoes, step_flush, step_rollback}
 use Rattle.pf_engine.specs.ShowLines.{show}
 use Rattle.pf_engine.specs.Step.{step}
@@ -404,14 +404,14 @@ returns-in-Load-clause-alone g c =
     let machine = c.args.self.now in let after = c.load.new.self in let line = c.args.line.now in
     let files = g.F.Files.tells c.args.files.now in let files' = g.F.Files.tells c.load.new.files in let old = c.args.out.now.items in let new = c.load.new.out.items in
     let is : command_of line ≡ Some (commands.Load c.in-Load.line) = sym c.in_ok-command.ensures ∙ (c.in-Some.is ∙ ap (λ (x : Command). Some x) c.in-Load.is) in
-    adds_given c.load.result old new (λ bytes refuses. DoesSo (UsesSome (Loading machine)) after bytes refuses) (reads_files (command_of line) ≡ false) (λ bytes refuses. DoesAlone machine line after bytes refuses) (λ none bytes refuses so. absurd (reads_some line (Some (commands.Load c.in-Load.line)) is refl none)) c.load.ensures.whatever
+    adds_given c.load.result old new (λ bytes refuses. DoesSo (UsesSome c.in-Load.line (Loading machine)) after bytes refuses) (reads_files (command_of line) ≡ false) (λ bytes refuses. DoesAlone machine line after bytes refuses) (λ none bytes refuses so. absurd (reads_some line (Some (commands.Load c.in-Load.line)) is refl none)) c.load.ensures.whatever
 
 pub returns-in-Load-clause-whatever : goal.returns-in-Load-clause-whatever
 returns-in-Load-clause-whatever g c =
     let machine = c.args.self.now in let after = c.load.new.self in let line = c.args.line.now in
     let files = g.F.Files.tells c.args.files.now in let files' = g.F.Files.tells c.load.new.files in let old = c.args.out.now.items in let new = c.load.new.out.items in
     let is : command_of line ≡ Some (commands.Load c.in-Load.line) = sym c.in_ok-command.ensures ∙ (c.in-Some.is ∙ ap (λ (x : Command). Some x) c.in-Load.is) in
-    adds_too c.load.result old new (λ bytes refuses. DoesSo (UsesSome (Loading machine)) after bytes refuses) (λ bytes refuses. DoesSo (DoesWhatever machine (command_of line)) after bytes refuses) (λ bytes refuses so. whatever_so (UsesSome (Loading machine)) machine after line (Some (commands.Load c.in-Load.line)) bytes refuses is (λ does h. h) so) c.load.ensures.whatever
+    adds_too c.load.result old new (λ bytes refuses. DoesSo (UsesSome c.in-Load.line (Loading machine)) after bytes refuses) (λ bytes refuses. DoesSo (DoesWhatever machine (command_of line)) after bytes refuses) (λ bytes refuses so. whatever_so (UsesSome c.in-Load.line (Loading machine)) machine after line (Some (commands.Load c.in-Load.line)) bytes refuses is (λ does h. h) so) c.load.ensures.whatever
 
 pub returns-in-Load-clause-refused : goal.returns-in-Load-clause-refused
 returns-in-Load-clause-refused g c = λ e. inl (c.load.ensures.refused e)
@@ -428,14 +428,14 @@ returns-in-Check-clause-alone g c =
     let machine = c.args.self.now in let after = machine in let line = c.args.line.now in
     let files = g.F.Files.tells c.args.files.now in let files' = g.F.Files.tells c.check.new.files in let old = c.args.out.now.items in let new = c.check.new.out.items in
     let is : command_of line ≡ Some (commands.Check c.in-Check.line) = sym c.in_ok-command.ensures ∙ (c.in-Some.is ∙ ap (λ (x : Command). Some x) c.in-Check.is) in
-    adds_given c.check.result old new (λ bytes refuses. DoesSo (UsesSome (Checking machine)) after bytes refuses) (reads_files (command_of line) ≡ false) (λ bytes refuses. DoesAlone machine line after bytes refuses) (λ none bytes refuses so. absurd (reads_some line (Some (commands.Check c.in-Check.line)) is refl none)) c.check.ensures.whatever
+    adds_given c.check.result old new (λ bytes refuses. DoesSo (UsesSome c.in-Check.line (Checking machine)) after bytes refuses) (reads_files (command_of line) ≡ false) (λ bytes refuses. DoesAlone machine line after bytes refuses) (λ none bytes refuses so. absurd (reads_some line (Some (commands.Check c.in-Check.line)) is refl none)) c.check.ensures.whatever
 
 pub returns-in-Check-clause-whatever : goal.returns-in-Check-clause-whatever
 returns-in-Check-clause-whatever g c =
     let machine = c.args.self.now in let after = machine in let line = c.args.line.now in
     let files = g.F.Files.tells c.args.files.now in let files' = g.F.Files.tells c.check.new.files in let old = c.args.out.now.items in let new = c.check.new.out.items in
     let is : command_of line ≡ Some (commands.Check c.in-Check.line) = sym c.in_ok-command.ensures ∙ (c.in-Some.is ∙ ap (λ (x : Command). Some x) c.in-Check.is) in
-    adds_too c.check.result old new (λ bytes refuses. DoesSo (UsesSome (Checking machine)) after bytes refuses) (λ bytes refuses. DoesSo (DoesWhatever machine (command_of line)) after bytes refuses) (λ bytes refuses so. whatever_so (UsesSome (Checking machine)) machine after line (Some (commands.Check c.in-Check.line)) bytes refuses is (λ does h. h) so) c.check.ensures.whatever
+    adds_too c.check.result old new (λ bytes refuses. DoesSo (UsesSome c.in-Check.line (Checking machine)) after bytes refuses) (λ bytes refuses. DoesSo (DoesWhatever machine (command_of line)) after bytes refuses) (λ bytes refuses so. whatever_so (UsesSome c.in-Check.line (Checking machine)) machine after line (Some (commands.Check c.in-Check.line)) bytes refuses is (λ does h. h) so) c.check.ensures.whatever
 
 pub returns-in-Open-clause-answers : goal.returns-in-Open-clause-answers
 returns-in-Open-clause-answers g c =
@@ -449,14 +449,14 @@ returns-in-Open-clause-alone g c =
     let machine = c.args.self.now in let after = c.open.new.self in let line = c.args.line.now in
     let files = g.F.Files.tells c.args.files.now in let files' = g.F.Files.tells c.open.new.files in let old = c.args.out.now.items in let new = c.open.new.out.items in
     let is : command_of line ≡ Some (commands.Open c.in-Open.name c.in-Open.line) = sym c.in_ok-command.ensures ∙ (c.in-Some.is ∙ ap (λ (x : Command). Some x) c.in-Open.is) in
-    adds_given c.open.result old new (λ bytes refuses. DoesSo (OpensSome (entry_refusal machine c.in-Open.name) machine c.in-Open.name) after bytes refuses) (reads_files (command_of line) ≡ false) (λ bytes refuses. DoesAlone machine line after bytes refuses) (λ none bytes refuses so. absurd (reads_some line (Some (commands.Open c.in-Open.name c.in-Open.line)) is refl none)) c.open.ensures.whatever
+    adds_given c.open.result old new (λ bytes refuses. DoesSo (OpensSome (entry_refusal machine c.in-Open.name) machine c.in-Open.name c.in-Open.line) after bytes refuses) (reads_files (command_of line) ≡ false) (λ bytes refuses. DoesAlone machine line after bytes refuses) (λ none bytes refuses so. absurd (reads_some line (Some (commands.Open c.in-Open.name c.in-Open.line)) is refl none)) c.open.ensures.whatever
 
 pub returns-in-Open-clause-whatever : goal.returns-in-Open-clause-whatever
 returns-in-Open-clause-whatever g c =
     let machine = c.args.self.now in let after = c.open.new.self in let line = c.args.line.now in
     let files = g.F.Files.tells c.args.files.now in let files' = g.F.Files.tells c.open.new.files in let old = c.args.out.now.items in let new = c.open.new.out.items in
     let is : command_of line ≡ Some (commands.Open c.in-Open.name c.in-Open.line) = sym c.in_ok-command.ensures ∙ (c.in-Some.is ∙ ap (λ (x : Command). Some x) c.in-Open.is) in
-    adds_too c.open.result old new (λ bytes refuses. DoesSo (OpensSome (entry_refusal machine c.in-Open.name) machine c.in-Open.name) after bytes refuses) (λ bytes refuses. DoesSo (DoesWhatever machine (command_of line)) after bytes refuses) (λ bytes refuses so. whatever_so (OpensSome (entry_refusal machine c.in-Open.name) machine c.in-Open.name) machine after line (Some (commands.Open c.in-Open.name c.in-Open.line)) bytes refuses is (λ does h. h) so) c.open.ensures.whatever
+    adds_too c.open.result old new (λ bytes refuses. DoesSo (OpensSome (entry_refusal machine c.in-Open.name) machine c.in-Open.name c.in-Open.line) after bytes refuses) (λ bytes refuses. DoesSo (DoesWhatever machine (command_of line)) after bytes refuses) (λ bytes refuses so. whatever_so (OpensSome (entry_refusal machine c.in-Open.name) machine c.in-Open.name c.in-Open.line) machine after line (Some (commands.Open c.in-Open.name c.in-Open.line)) bytes refuses is (λ does h. h) so) c.open.ensures.whatever
 
 pub returns-in-Open-clause-refused : goal.returns-in-Open-clause-refused
 returns-in-Open-clause-refused g c = λ e. inl (c.open.ensures.refused e)
