@@ -1,5 +1,7 @@
+mod Deciding
 mod Glyphs
 mod Lines
+mod Records
 mod Rules
 mod Numbers
 mod Sources

@@ -66,7 +66,7 @@ number_is_word n small = digits_are_word (decimal n) (number_some n small) (all_
 
 -- ---- a port
 
-decimal_back : (most n : ℕ) → n ≤ most → n < 2 ^ 64 → decimal_of most (decimal n) ≡ Some n
+pub decimal_back : (most n : ℕ) → n ≤ most → n < 2 ^ 64 → decimal_of most (decimal n) ≡ Some n
 unfolding decimal_of
 decimal_back most n fits small = rw (number_some n small, all_digits n small, digits_value-decimal own n small, le-leb n most fits) refl
 

@@ -41,14 +41,14 @@ pub record IsRuleLine (facts : HostFacts) (text : List ℕ) : Type 0 where
 -- ---- words
 
 -- an interface is one of four
-four : (P : ℕ → Type 0) → P 0 → P 1 → P 2 → P 3 → (n : ℕ) → n < 4 → P n
+pub four : (P : ℕ → Type 0) → P 0 → P 1 → P 2 → P 3 → (n : ℕ) → n < 4 → P n
 four P p q r s zero h = p
 four P p q r s (suc zero) h = q
 four P p q r s (suc (suc zero)) h = r
 four P p q r s (suc (suc (suc zero))) h = s
 four P p q r s (suc (suc (suc (suc n)))) h = absurd (omega arith)
 
-abbrev iface_word : ℕ → List ℕ
+abbrev pub iface_word : ℕ → List ℕ
 iface_word n = 101 ∷ 109 ∷ decimal n
 
 iface_named : (n : ℕ) → n < 4 → name_of (bare (iface_word n)) ≡ Some (iface_word n)
@@ -63,10 +63,10 @@ iface_length : (n : ℕ) → n < 4 → length (iface_word n) ≤ 3
 unfolding digits
 iface_length = four (λ n. length (iface_word n) ≤ 3) (omega arith) (omega arith) (omega arith) (omega arith)
 
-abbrev proto_word : Bool → List ℕ
+abbrev pub proto_word : Bool → List ℕ
 proto_word tcp = if tcp then codes "tcp" else codes "udp"
 
-abbrev proto_number : Bool → ℕ
+abbrev pub proto_number : Bool → ℕ
 proto_number tcp = if tcp then 6 else 17
 
 proto_is_named : (tcp : Bool) → name_of (bare (proto_word tcp)) ≡ Some (proto_word tcp)
@@ -79,7 +79,7 @@ unfolding class_of
 proto_written true = refl
 proto_written false = refl
 
-proto_is : (tcp : Bool) → proto_of (proto_word tcp) ≡ Some (proto_number tcp)
+pub proto_is : (tcp : Bool) → proto_of (proto_word tcp) ≡ Some (proto_number tcp)
 unfolding protocols decimal_of
 proto_is true = refl
 proto_is false = refl

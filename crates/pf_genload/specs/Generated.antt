@@ -1,5 +1,5 @@
 -- A generated configuration, and what its load comes to (pfctl(8), -g).
-use Rattle.std.specs.Prelude.{◌≡◌, ℕ, Bool, true, false, not, List, [], ◌∷◌, length, codes, Option, Some, Ok}
+use Rattle.std.specs.Prelude.{◌≡◌, ℕ, Bool, true, not, List, [], ◌∷◌, length, codes, Option, Some, Ok}
 use Rattle.std.specs.List.{list_all}
 use Rattle.pf_base.specs.declared.kind.Level.{Level}
 use Rattle.pf_gen.specs.Texts.{config_of}

@@ -30,7 +30,7 @@ one_more : (n : ℕ) → suc n ≡ 1 + n
 one_more n = omega arith
 
 -- a list with one item more that is kept or not
-kept_one : {A : Type 0} (p : A → Bool) (x : A) (xs : List A) → length (filter p (x ∷ xs)) ≡ one_if (p x) + length (filter p xs)
+pub kept_one : {A : Type 0} (p : A → Bool) (x : A) (xs : List A) → length (filter p (x ∷ xs)) ≡ one_if (p x) + length (filter p xs)
 kept_one p x xs =
     elim (p x) as (λ b. length (cond b (x ∷ filter p xs) (filter p xs)) ≡ one_if b + length (filter p xs)) [
       | true ↦ one_more (length (filter p xs))

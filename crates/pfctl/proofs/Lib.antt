@@ -6,3 +6,4 @@ pub mod Programs
 pub mod Sessions
 pub mod Summaries
 pub mod Tasks
+pub mod Verdicts

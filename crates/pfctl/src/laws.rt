@@ -1,5 +1,5 @@
 //! Laws of runs, without code.
-ghost use Rattle.std.specs.Prelude.{◌≡◌, ℕ, false, List};
+ghost use Rattle.std.specs.Prelude.{◌≡◌, ◌+◌, ℕ, false, List};
 ghost use Rattle.pf_engine.specs.Step.{step};
 ghost use Rattle.pf_genload.specs.Generated.{generated_disk};
 ghost use Rattle.pf_runs.specs.Runs.{Script, Stepped};
@@ -14,7 +14,7 @@ ghost use Rattle.pfctl.specs.Generating.{Generates, Summed, load_line};
 use pf_engine::{Engine, a_line_does_one_thing};
 use pf_genload::{
     a_generated_configuration_loads, a_plan_of_one_ruleset_answers_alike,
-    a_plan_of_one_ruleset_stands,
+    a_plan_of_one_ruleset_stands, a_walk_passes_or_blocks, generated_records_are_packets,
 };
 use pf_record::a_record_is_read_one_way;
 use pf_runs::a_script_has_one_run;
@@ -55,4 +55,16 @@ pub fn a_generated_load_is_done()
 {
     a_generated_configuration_loads();
     a_plan_of_one_ruleset_stands();
+}
+
+/// Each of the 5,000 records of a number passes or is blocked, whatever the number and the level: the two counts of its run make 5,000
+/// together.
+pub fn every_generated_record_is_answered()
+    ensures { (number : ℕ) (level : Level) (summary : Summary) → Summed number level summary → summary.pass + summary.block ≡ 5000 }
+{
+    a_generated_configuration_loads();
+    a_plan_of_one_ruleset_stands();
+    generated_records_are_packets();
+    a_walk_passes_or_blocks();
+    a_record_is_read_one_way();
 }
