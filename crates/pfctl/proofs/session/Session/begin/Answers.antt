@@ -1,6 +1,6 @@
 use Rattle.std.proofs.Common.{[], ◌∷◌}
 use Rattle.std.proofs.lemmas.Result.{err_from_is_err_and}
-use Rattle.pf_words.specs.Said.{load_of, text_if}
+use Rattle.pf_words.specs.Said.{load_of}
 use Rattle.pfctl.specs.Lines.{hosts_lines, load_line}
 use Rattle.pfctl.proofs.Sessions.{halts_sooner, performs_on}
 use Rattle.pfctl.proofs.session.Session.begin.Goals as goal

@@ -1,9 +1,8 @@
-use Rattle.std.proofs.Common.{◌≡◌, ◌-◌, length, take, drop, ◌∙◌, arith, Err}
+use Rattle.std.proofs.Common.{◌≡◌, ◌-◌, length, take, drop, ◌∙◌, arith}
 use Rattle.std.proofs.lemmas.List.{length-take-le, length-drop}
 use Rattle.std.proofs.lemmas.Result.{err_from_is_err_and}
 use Rattle.pfctl.specs.Doing.{world}
 use Rattle.pfctl.proofs.Inputs.{ends_at_fault, kept_is_one_line, nothing_so_far, ends_whole, stops_at_last, one_piece, stops_in_piece, ends_past_limit, first_of_piece, cut_piece, whole_piece, gave}
-use Rattle.pfctl.proofs.Sessions.{fails_later}
 use Rattle.pfctl.proofs.session.Session.read_input.Goals as goal
 
 pub loop-count-init : goal.loop-count-init
