@@ -1,14 +1,12 @@
 -- What a generated run comes to is written, or the run stops there.
 use Rattle.std.proofs.Common.{ℕ, List, Err, arith, refl, ap, ◌∙◌, subst}
 use Rattle.std.specs.Io.KnownBytes.{Appends}
-use Rattle.pf_source.specs.AskingLaws.{CountsOn-none}
 use Rattle.pf_source.specs.Causes.{CountsOn}
-use Rattle.pf_source.specs.KnownLaws.{Keeps-same}
 use Rattle.pf_source.specs.Told.{FilesTold, SinkTold, SourceTold}
 use Rattle.pfctl.specs.declared.session.Stop.{Stop}
 use Rattle.pfctl.specs.declared.session.Stop.TheVariants as stop
-use Rattle.pfctl.specs.Doing.{FailsByCount, Sends, count_pieces, status_by}
-use Rattle.pfctl.specs.Program.{HasWriteCause, MeansGenerated, Summarised, outside}
+use Rattle.pfctl.specs.Doing.{Sends, count_pieces, status_by}
+use Rattle.pfctl.specs.Program.{MeansGenerated, Summarised, outside}
 use Rattle.pfctl.proofs.Counting.{GeneratesBytes}
 use Rattle.pfctl.proofs.Sessions.{one_piece}
 
@@ -39,17 +37,3 @@ module _ (number : ℕ) (files : FilesTold) (source : SourceTold) (old new : Sin
     once = omega arith;
     writes = writes;
   }
-
--- nothing was written
-pub no_summary : (number : ℕ) (files : FilesTold) (source : SourceTold) (sink : SinkTold) → MeansGenerated number (outside files source sink) (outside files source sink) (status_by (Err stop.NoMemory))
-no_summary number files source sink = record {
-  unread = record { files = refl; source = refl };
-  written = Keeps-same sink.written;
-  tries = 0;
-  once = omega arith;
-  writes = CountsOn-none sink.calls;
-}
-
-pub cut_cause : (why : Stop) (files : FilesTold) (source : SourceTold) (old new : SinkTold) → FailsByCount {X = Unit {0}} old new (Err why) → HasWriteCause (outside files source old) (outside files source new) (status_by (Err why))
-cut_cause stop.WriteFault files source old new h = h
-cut_cause stop.NoMemory files source old new h = tt

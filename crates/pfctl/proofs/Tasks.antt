@@ -1,5 +1,6 @@
 -- What the words say, and what comes of it.
 use Rattle.std.proofs.Common.{◌≡◌, ℕ, ◌+◌, ◌≤◌, List, Option, Some, None, Err, refl, arith, subst}
+use Rattle.pf_source.specs.AskingLaws.{CountsOn-none}
 use Rattle.pf_source.specs.Causes.{Rose}
 use Rattle.pf_source.specs.Told.{Told, file_of}
 use Rattle.pf_source.specs.KnownLaws.{Keeps-same}
@@ -8,21 +9,31 @@ use Rattle.pfctl.specs.declared.program.Status.{Status}
 use Rattle.pfctl.specs.declared.program.Status.TheVariants as status
 use Rattle.pfctl.specs.Input.{untouched}
 use Rattle.pfctl.specs.Lines.{load_and_test, script}
-use Rattle.pfctl.specs.Program.{HasCause, Means, Outside}
+use Rattle.pfctl.specs.Program.{HasCause, Means, Outside, SummarisesNothing}
 use Rattle.pfctl.proofs.Programs.{means_idle}
+
+-- nothing was written of a summary, and no write was tried
+summarises_nothing : (before : Outside) → SummarisesNothing before before
+summarises_nothing before = record {
+  unread = record { files = refl; source = refl };
+  written = Keeps-same before.sink.written;
+  tries = 0;
+  once = omega arith;
+  writes = CountsOn-none before.sink.calls;
+}
 
 -- nothing was done for want of memory
 pub idle_means : (said : Option Task) (before : Outside) → Told before.files.held (λ held. Means said (file_of held) before before status.NoMemory)
 idle_means None before = record { at = λ held is. refl }
 idle_means (Some (loads words)) before = means_idle (load_and_test words) before
 idle_means (Some runs_script) before = means_idle script before
-idle_means (Some (generates number)) before = record { at = λ held is. record { unread = record { files = refl; source = refl }; written = Keeps-same before.sink.written } }
+idle_means (Some (generates number)) before = record { at = λ held is. summarises_nothing before }
 
 pub idle_cause : (said : Option Task) (before : Outside) → HasCause said before before status.NoMemory
 idle_cause None before = refl
 idle_cause (Some (loads words)) before = untouched refl
 idle_cause (Some runs_script) before = untouched refl
-idle_cause (Some (generates number)) before = (record { unread = record { files = refl; source = refl }; written = Keeps-same before.sink.written }, tt)
+idle_cause (Some (generates number)) before = (summarises_nothing before, tt)
 
 -- what the words say has another status
 pub said_is_read : (task : Task) (before after : Outside) → HasCause (Some task) before after status.Words → ⊥
