@@ -1,6 +1,6 @@
 //! Calls in a circle and in a chain.
-use crate::{CallFault, CallRow, call_fault, paths_ascend};
 use pf_base::{List, Path};
+use pf_calls::{CallFault, CallRow, call_fault, paths_ascend};
 use pf_parts::Call;
 use std::alloc::Global;
 use std::process::Abort;

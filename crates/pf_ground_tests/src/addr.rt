@@ -1,4 +1,7 @@
-use super::*;
+use pf_addr::{
+    AddrFault, Prefix, Range, RangeFault, parse_addr, parse_masked, parse_prefix,
+    parse_prefix_parts, put_addr, put_prefix,
+};
 use std::test::Fail;
 
 // Texts that are no address.

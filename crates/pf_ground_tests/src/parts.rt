@@ -1,5 +1,9 @@
-use crate::*;
 use pf_base::{Name, Path, PathFault, Same};
+use pf_parts::{
+    Base, BlockKind, Call, Log, Prios, Queues, Scrub, StateKind, StateOptions, Track, put,
+    put_allow_opts, put_block_kind, put_call, put_label, put_log, put_prio, put_queue, put_scrub,
+    put_state, put_tag, put_tos,
+};
 use std::test::Fail;
 
 fn name(text: &str) -> Result<Name, Fail> {

@@ -1,8 +1,8 @@
-use crate::{
+use pf_base::{Family, Name};
+use pf_ops::{
     Interval, Numbers, Op16, Op32, OpKind, flag_bits, flags_of, icmp_number, icmp_of, proto_name,
     proto_number, proto_of, put_flags,
 };
-use pf_base::{Family, Name};
 
 #[test]
 fn operators_hold_on_their_numbers(rt: HostRuntime) {

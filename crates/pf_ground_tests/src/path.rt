@@ -1,4 +1,4 @@
-use crate::{Name, Path, PathFault};
+use pf_base::{Name, Path, PathFault};
 use std::test::Fail;
 
 #[test]

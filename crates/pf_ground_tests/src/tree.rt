@@ -1,7 +1,7 @@
 ghost use Rattle.std.specs.Prelude.{◌==◌};
 
-use crate::{Blank, Tree};
 use pf_base::{Name, Path};
+use pf_tree::{Blank, Tree};
 use std::alloc::Global;
 use std::test::Fail;
 

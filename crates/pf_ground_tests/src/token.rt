@@ -1,7 +1,7 @@
 //! The tokens of short texts, written out by hand. A token is `w` for a word, `q` for a string, `s` for a sign, `n` for a
 //! newline or the name of a fault, then its line, its text and `|`.
-use crate::{Cause, Define, Fault, Lexeme, Macros, Token, TokenKind, tokens_of};
 use pf_base::{List, Name, NoMemory};
+use pf_token::{Cause, Define, Fault, Lexeme, Macros, Token, TokenKind, tokens_of};
 use std::alloc::Global;
 use std::process::Abort;
 use std::test::Fail;

@@ -4,8 +4,8 @@ ghost use Rattle.std.specs.FinMap as finite;
 ghost use Rattle.std.specs.Ordering.{nat_cmp};
 ghost use Rattle.pf_base.specs.OrderedMap.{map_of};
 
-use crate::text::{decimal, is_digits};
-use crate::{
+use pf_base::text::{decimal, is_digits};
+use pf_base::{
     Family, Ledger, List, Name, NoMemory, Path, Place, Same, Steps, Text, Uncounted, is_plain_byte,
     name_map_laws, named_in_fault,
 };
