@@ -1,6 +1,6 @@
 //! Lines of a script, and what they say.
-use crate::{Command, LoadLine, Show, TableAction, Words, read_command};
 use pf_base::{Level, NoMemory, Text};
+use pf_script::{Command, LoadLine, Show, TableAction, Words, read_command};
 use pf_token::Define;
 use std::alloc::Global;
 use std::test::Fail;

@@ -1,8 +1,9 @@
 //! Declarations, over the tokens of short texts.
-use crate::{Decl, Queue, QueueFault, UsedQueue, check_queues, parse_decl};
-use pf_base::{FaultKind, List, Name, Place};
+use crate::tokens::tokens;
+use pf_base::{FaultKind, Name, Place};
+use pf_decl::{Decl, Queue, QueueFault, UsedQueue, check_queues, parse_decl};
 use pf_syntax::FormFault;
-use pf_token::{Lexeme, Macros, Token, tokens_of};
+use pf_token::Token;
 use std::alloc::Global;
 use std::process::Abort;
 use std::test::Fail;
@@ -53,19 +54,6 @@ const REFUSED: [(&str, &str); 6] = [
     ("queue q qlimit 0", ""),
     ("queue q bandwidth 10m", ""),
 ];
-
-fn tokens(rt: &impl Abort, alloc: Global, text: &str) -> Result<Vec<Token>, Fail> {
-    let text = List::of(Vec::from_slice(alloc, text.as_bytes())?);
-    assert!(rt; text.items().len() < 1000);
-    let macros = Macros::new(alloc, &[])?;
-    let mut found = Vec::new(alloc);
-    for lexeme in tokens_of(alloc, text, 1, &macros)? {
-        if let Lexeme::Token(token) = lexeme {
-            found.push(token)?;
-        }
-    }
-    Ok(found)
-}
 
 fn name(text: &str) -> Result<Name, Fail> {
     Ok(Name::new(text.as_bytes()).ok_or("a name")?)

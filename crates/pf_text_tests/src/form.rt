@@ -1,28 +1,12 @@
 //! Parts of rules, over the tokens of short texts.
-use crate::flags::take_flags;
-use crate::hosts::{take_direction, take_family, take_hosts, take_ifaces, take_protos};
-use crate::log::take_logged;
-use crate::setting::{ReadSet, is_no_scrub, take_prio, take_scrub, take_settings, take_tos};
-use crate::state::take_state_options;
-use pf_base::List;
+use crate::tokens::tokens;
+use pf_form::flags::take_flags;
+use pf_form::hosts::{take_direction, take_family, take_hosts, take_ifaces, take_protos};
+use pf_form::log::take_logged;
+use pf_form::setting::{ReadSet, is_no_scrub, take_prio, take_scrub, take_settings, take_tos};
+use pf_form::state::take_state_options;
 use pf_syntax::{Cursor, Stop};
-use pf_token::{Lexeme, Macros, Token, tokens_of};
-use std::alloc::Global;
-use std::process::Abort;
 use std::test::Fail;
-
-fn tokens(rt: &impl Abort, alloc: Global, text: &str) -> Result<Vec<Token>, Fail> {
-    let text = List::of(Vec::from_slice(alloc, text.as_bytes())?);
-    assert!(rt; text.items().len() < 1000);
-    let macros = Macros::new(alloc, &[])?;
-    let mut found = Vec::new(alloc);
-    for lexeme in tokens_of(alloc, text, 1, &macros)? {
-        if let Lexeme::Token(token) = lexeme {
-            found.push(token)?;
-        }
-    }
-    Ok(found)
-}
 
 // A stop as the error of a test.
 fn stopped(_stop: Stop) -> &'static str {

@@ -3,10 +3,10 @@
 //! `.`, or with `{` where it opens a body. The tokens of a statement of more than 99 are `#`.
 ghost use Rattle.std.specs.Prelude.{◌≤◌, length};
 
-use crate::{
+use pf_base::{List, Name, NoMemory, Place, Text};
+use pf_lexer::{
     Define, LexFault, Lexer, Macros, Reads, Statement, Token, TokenKind, UnitStatements, read_unit,
 };
-use pf_base::{List, Name, NoMemory, Place, Text};
 use pf_source::{HeldFile, MemoryFiles};
 use std::alloc::{AllocError, Global};
 use std::process::Abort;

@@ -1,5 +1,5 @@
 //! Words of the program, in and out of form.
-use crate::{Said, WordsFault, read_words};
+use pf_words::{Said, WordsFault, read_words};
 use std::alloc::Global;
 use std::test::Fail;
 

@@ -1,24 +1,9 @@
 //! Statements and what they are read as, over the tokens of short texts.
-use crate::{FormRead, parse_rule, read_draft, read_form};
-use pf_base::{List, Name};
+use crate::tokens::tokens;
+use pf_base::Name;
+use pf_grammar::{FormRead, parse_rule, read_draft, read_form};
 use pf_syntax::FormFault;
-use pf_token::{Lexeme, Macros, Token, tokens_of};
-use std::alloc::Global;
-use std::process::Abort;
 use std::test::Fail;
-
-fn tokens(rt: &impl Abort, alloc: Global, text: &str) -> Result<Vec<Token>, Fail> {
-    let text = List::of(Vec::from_slice(alloc, text.as_bytes())?);
-    assert!(rt; text.items().len() < 1000);
-    let macros = Macros::new(alloc, &[])?;
-    let mut found = Vec::new(alloc);
-    for lexeme in tokens_of(alloc, text, 1, &macros)? {
-        if let Lexeme::Token(token) = lexeme {
-            found.push(token)?;
-        }
-    }
-    Ok(found)
-}
 
 #[test]
 fn statements_and_their_faults(rt: HostRuntime) -> Result<(), Fail> {

@@ -1,5 +1,5 @@
 //! The first lines of one number, which are known, and how much there is.
-use crate::generated;
+use pf_gen::generated;
 use std::test::Fail;
 
 #[test]

@@ -1,26 +1,11 @@
 //! Parts of statements, over the tokens of short texts.
-use crate::host::EachHost;
-use crate::list::take_list;
-use crate::operator::{EachIcmpType, EachOp, take_target};
-use crate::{Cursor, FormFault, Stop, form_fault};
-use pf_base::{Family, List, Name};
-use pf_token::{Lexeme, Macros, Token, tokens_of};
-use std::alloc::Global;
-use std::process::Abort;
+use crate::tokens::tokens;
+use pf_base::{Family, Name};
+use pf_syntax::host::EachHost;
+use pf_syntax::list::take_list;
+use pf_syntax::operator::{EachIcmpType, EachOp, take_target};
+use pf_syntax::{Cursor, FormFault, Stop, form_fault};
 use std::test::Fail;
-
-fn tokens(rt: &impl Abort, alloc: Global, text: &str) -> Result<Vec<Token>, Fail> {
-    let text = List::of(Vec::from_slice(alloc, text.as_bytes())?);
-    assert!(rt; text.items().len() < 1000);
-    let macros = Macros::new(alloc, &[])?;
-    let mut found = Vec::new(alloc);
-    for lexeme in tokens_of(alloc, text, 1, &macros)? {
-        if let Lexeme::Token(token) = lexeme {
-            found.push(token)?;
-        }
-    }
-    Ok(found)
-}
 
 #[test]
 fn lists_of_hosts(rt: HostRuntime) -> Result<(), Fail> {
