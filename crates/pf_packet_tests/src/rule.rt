@@ -1,9 +1,13 @@
 ghost use Rattle.std.specs.Prelude.{◌<◌};
 
-use crate::*;
 use pf_addr::{Addr, DynIf, Ifaces, Prefix, Range, parse_addr, parse_prefix};
 use pf_base::{Family, Name, Path, Same, Steps, Uncounted};
 use pf_ops::{IcmpType, Op16, Op32, OpKind, TcpFlags};
+use pf_rule::{
+    Action, AddrSet, AddrTest, Answer, Base, BlockKind, Call, Criteria, Direction, Effect,
+    FieldValue, IfTest, Marks, Members, NoTables, Packet, Params, Probe, Queues, Rule, StateKind,
+    StateOptions, TagTest, Target, Tested, Walk, answer, apply, evaluate, hit,
+};
 use std::alloc::Global;
 use std::collections::HashMap;
 use std::test::Fail;

@@ -1,7 +1,7 @@
 //! The texts of refusals and replies.
-use crate::{Filled, Listing, Overfull, Refusal, Reply, put_refusal, put_reply};
 use pf_base::{FaultKind, List, Name, Path, Text};
 use pf_record::Field;
+use pf_reply::{Filled, Listing, Overfull, Refusal, Reply, put_refusal, put_reply};
 use std::alloc::Global;
 use std::test::Fail;
 

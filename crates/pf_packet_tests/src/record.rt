@@ -1,6 +1,6 @@
-use crate::{Field, PacketFault, put_answer, read_packet};
 use pf_addr::Addr;
 use pf_base::Name;
+use pf_record::{Field, PacketFault, put_answer, read_packet};
 use pf_rule::{
     Action, Answer, BlockKind, Decision, Direction, Flush, Log, Overload, Packet, Params, Prios,
     Queues, Rate, Scrub, StateKind, StateOptions, Target, Track,
