@@ -1,6 +1,6 @@
 //! Tables by calls.
-use crate::{Entry, Table};
 use pf_addr::{Addr, Prefix, parse_prefix};
+use pf_table::{Entry, Table};
 use std::process::Abort;
 use std::test::Fail;
 

@@ -1,8 +1,8 @@
 //! Drafts with bodies and units, written out by hand.
-use crate::{Draft, FilledPaths, Part, Plan, end_fault, nameless_path, plan_of};
 use pf_base::{FaultKind, Level, List, Name, Path, Place, Text};
 use pf_decl::Queue;
 use pf_fault::Fault;
+use pf_plan::{Draft, FilledPaths, Part, Plan, end_fault, nameless_path, plan_of};
 use pf_shelf::TableDecl;
 use std::alloc::{AllocError, Global};
 use std::process::Abort;

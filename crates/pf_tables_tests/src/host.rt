@@ -1,6 +1,6 @@
-use crate::{Facts, FactsCause, FactsFault, read_facts};
 use pf_addr::{DynIf, Ifaces, parse_addr};
 use pf_base::Name;
+use pf_host::{Facts, FactsCause, FactsFault, read_facts};
 use std::alloc::Global;
 use std::test::Fail;
 

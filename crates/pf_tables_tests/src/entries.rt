@@ -1,7 +1,7 @@
 //! Tables with a file, written out by hand.
-use crate::{has_words, read_table};
 use pf_base::{FaultKind, List, Name, Place, Text};
 use pf_decl::{TableForm, TableItem};
+use pf_entries::{has_words, read_table};
 use pf_fault::Stop;
 use pf_host::Facts;
 use pf_lexer::Reads;

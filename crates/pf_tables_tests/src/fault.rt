@@ -1,6 +1,6 @@
 //! The order of faults, written out by hand.
-use crate::{Fault, first_of};
 use pf_base::{FaultKind, Place};
+use pf_fault::{Fault, first_of};
 use std::test::Fail;
 
 fn at(line: u32) -> Place {

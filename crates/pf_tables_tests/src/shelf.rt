@@ -1,7 +1,7 @@
 //! Shelves by calls.
-use crate::{ChangeKind, Counts, Shelf, TableDecl, TableFault, TableFlags};
 use pf_addr::parse_prefix;
 use pf_base::{List, Name};
+use pf_shelf::{ChangeKind, Counts, Shelf, TableDecl, TableFault, TableFlags};
 use pf_table::Entry;
 use std::alloc::Global;
 use std::process::Abort;
