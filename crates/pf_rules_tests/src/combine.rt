@@ -1,7 +1,7 @@
 //! Combinations of lists.
-use crate::{Member, combinations};
 use pf_addr::{Addr, Prefix};
 use pf_base::{Family, List};
+use pf_combine::{Member, combinations};
 use pf_parts::{IfTest, TagTest};
 use pf_rule::{AddrSet, AddrTest, Criteria};
 use std::test::Fail;

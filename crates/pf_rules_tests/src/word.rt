@@ -1,7 +1,7 @@
 //! Words against the facts of a small host.
-use crate::{host_prefixes, is_table_name, read_protos};
 use pf_base::Name;
 use pf_host::read_facts;
+use pf_word::{host_prefixes, is_table_name, read_protos};
 use std::test::Fail;
 
 #[test]

@@ -1,5 +1,5 @@
-use crate::merge;
 use pf_addr::{Addr, Prefix};
+use pf_auto::merge;
 use pf_base::Family;
 use pf_parts::{IfTest, StateKind, StateOptions, TagTest};
 use pf_rule::{Action, AddrSet, AddrTest, Criteria, Effect, Params, Rule};

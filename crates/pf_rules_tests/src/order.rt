@@ -1,40 +1,9 @@
-use crate::*;
+use crate::plain::BLOCK_ALL;
 use pf_addr::parse_prefix;
 use pf_base::{Family, List, Name, Same};
-use pf_rule::{
-    Action, AddrSet, AddrTest, BlockKind, Criteria, Effect, IfTest, Params, Rule, StateKind,
-    StateOptions, TagTest,
-};
+use pf_order::{Span, blocks, gain, order_gain, order_profile};
+use pf_rule::{Action, AddrSet, AddrTest, IfTest, Rule};
 use std::test::Fail;
-
-const BLOCK_ALL: Rule = Rule {
-    criteria: Criteria {
-        iface: IfTest::Any,
-        direction: None,
-        family: None,
-        proto: None,
-        source: AddrTest::Any,
-        source_port: None,
-        target: AddrTest::Any,
-        target_port: None,
-        user: None,
-        group: None,
-        flags: None,
-        icmp: None,
-        tos: None,
-        prio: None,
-        tagged: TagTest::Any,
-    },
-    effect: Effect {
-        action: Action::Block(BlockKind::Drop),
-        quick: false,
-        tag: None,
-        state: StateKind::None,
-        options: StateOptions::NONE,
-        params: Params::NONE,
-        label: None,
-    },
-};
 
 fn block_on(iface: &str, source: &str) -> Result<Rule, Fail> {
     let mut rule = BLOCK_ALL;

@@ -1,4 +1,3 @@
-use crate::{put_option, put_queue, put_rule, put_table};
 use pf_addr::{Addr, DynIf, Range, parse_prefix};
 use pf_base::{Family, List, Name, Place};
 use pf_decl::{Bandwidth, Burst, OptionLine, Queue, Setting};
@@ -6,6 +5,7 @@ use pf_ops::{IcmpType, Op16, Op32, OpKind, TcpFlags};
 use pf_parts::{
     BlockKind, Call, Direction, IfTest, Log, Prios, Queues, Scrub, StateKind, StateOptions, TagTest,
 };
+use pf_print::{put_option, put_queue, put_rule, put_table};
 use pf_rule::{Action, AddrSet, AddrTest, Criteria, Effect, Params, Rule, Target};
 use pf_shelf::TableFlags;
 use pf_table::Entry;

@@ -4,9 +4,9 @@ ghost use Rattle.std.specs.List.{sum};
 ghost use Rattle.pf_auto.specs.Standing.{names_none};
 ghost use Rattle.pf_optim.specs.Meaning.{are_written};
 
-use crate::{CallFault, Node, call_fault, call_rows, eval, rows_tell_calls};
 use pf_addr::{Addr, Ifaces, Prefix};
 use pf_base::{Family, Level, List, Name, NoMemory, Path, Steps, Uncounted};
+use pf_eval::{CallFault, Node, call_fault, call_rows, eval, rows_tell_calls};
 use pf_host::Facts;
 use pf_ops::{Op16, OpKind};
 use pf_optim::optimise;

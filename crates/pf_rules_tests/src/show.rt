@@ -3,44 +3,16 @@ ghost use Rattle.std.specs.Prelude.{◌≡◌, length, true, IfOk};
 ghost use Rattle.pf_auto.specs.Standing.{names_none};
 ghost use Rattle.pf_optim.specs.Meaning.{are_written};
 
-use crate::{put_declared, put_lines, put_skips};
+use crate::plain::BLOCK_ALL;
 use pf_auto::AutoTable;
 use pf_base::{Level, List, Name, NoMemory};
 use pf_optim::optimise;
-use pf_parts::{BlockKind, IfTest, StateKind, StateOptions, TagTest};
-use pf_rule::{Action, AddrTest, Criteria, Effect, Params, Rule};
+use pf_parts::IfTest;
+use pf_rule::Rule;
 use pf_shelf::{Shelf, TableDecl};
+use pf_show::{put_declared, put_lines, put_skips};
 use std::alloc::Global;
 use std::test::Fail;
-
-const BLOCK_ALL: Rule = Rule {
-    criteria: Criteria {
-        iface: IfTest::Any,
-        direction: None,
-        family: None,
-        proto: None,
-        source: AddrTest::Any,
-        source_port: None,
-        target: AddrTest::Any,
-        target_port: None,
-        user: None,
-        group: None,
-        flags: None,
-        icmp: None,
-        tos: None,
-        prio: None,
-        tagged: TagTest::Any,
-    },
-    effect: Effect {
-        action: Action::Block(BlockKind::Drop),
-        quick: false,
-        tag: None,
-        state: StateKind::None,
-        options: StateOptions::NONE,
-        params: Params::NONE,
-        label: None,
-    },
-};
 
 // `block on IFACE`
 fn block_on(iface: &str) -> Rule

@@ -2,46 +2,15 @@ ghost use Rattle.std.specs.Prelude.{◌≡◌, length, true, IfOk};
 ghost use Rattle.pf_auto.specs.Standing.{names_none};
 ghost use Rattle.pf_optim.specs.Meaning.{are_written};
 
-use crate::*;
+use crate::plain::BLOCK_ALL;
 use pf_addr::parse_prefix;
 use pf_base::{Family, List, Name, NoMemory, Path};
-use pf_rule::{
-    Action, AddrSet, AddrTest, BlockKind, Criteria, Effect, IfTest, Params, Rule, StateKind,
-    StateOptions, TagTest,
-};
+use pf_optim::{Level, Node, ProfileFault, Ruleset, optimise, read_profile};
+use pf_rule::{AddrSet, AddrTest, IfTest, Rule};
 use pf_shelf::Shelf;
 use pf_tree::Blank;
 use std::alloc::Global;
 use std::test::Fail;
-
-const BLOCK_ALL: Rule = Rule {
-    criteria: Criteria {
-        iface: IfTest::Any,
-        direction: None,
-        family: None,
-        proto: None,
-        source: AddrTest::Any,
-        source_port: None,
-        target: AddrTest::Any,
-        target_port: None,
-        user: None,
-        group: None,
-        flags: None,
-        icmp: None,
-        tos: None,
-        prio: None,
-        tagged: TagTest::Any,
-    },
-    effect: Effect {
-        action: Action::Block(BlockKind::Drop),
-        quick: false,
-        tag: None,
-        state: StateKind::None,
-        options: StateOptions::NONE,
-        params: Params::NONE,
-        label: None,
-    },
-};
 
 // `block on IFACE inet from SOURCE`
 fn block_on(iface: &str, source: &str) -> Rule

@@ -1,39 +1,10 @@
-use crate::*;
+use crate::plain::BLOCK_ALL;
 use pf_addr::parse_prefix;
 use pf_base::Family;
+use pf_cover::{covers, keep, keep_weighed};
 use pf_ops::{Op16, OpKind};
-use pf_parts::{BlockKind, IfTest, StateKind, StateOptions, TagTest};
-use pf_rule::{Action, AddrSet, AddrTest, Criteria, Effect, Params, Rule};
+use pf_rule::{AddrSet, AddrTest, Rule};
 use std::test::Fail;
-
-const BLOCK_ALL: Rule = Rule {
-    criteria: Criteria {
-        iface: IfTest::Any,
-        direction: None,
-        family: None,
-        proto: None,
-        source: AddrTest::Any,
-        source_port: None,
-        target: AddrTest::Any,
-        target_port: None,
-        user: None,
-        group: None,
-        flags: None,
-        icmp: None,
-        tos: None,
-        prio: None,
-        tagged: TagTest::Any,
-    },
-    effect: Effect {
-        action: Action::Block(BlockKind::Drop),
-        quick: false,
-        tag: None,
-        state: StateKind::None,
-        options: StateOptions::NONE,
-        params: Params::NONE,
-        label: None,
-    },
-};
 
 // `block inet from PREFIX`, or with `!` before the prefix, or `block all` where that is no prefix.
 fn block_from(negated: bool, text: &str) -> Rule {
