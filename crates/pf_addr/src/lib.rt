@@ -25,6 +25,3 @@ pub use prefix::Prefix;
 pub use print::{put_addr, put_prefix};
 pub use range::{Range, RangeFault};
 pub use stretch::Stretch;
-
-#[cfg(test)]
-mod tests;

@@ -29,8 +29,3 @@ pub use path_fault::PathFault;
 pub use plain::{is_plain_byte, plain_name};
 pub use same::Same;
 pub use steps::{Ledger, Steps, Uncounted};
-
-#[cfg(test)]
-mod path_tests;
-#[cfg(test)]
-mod tests;

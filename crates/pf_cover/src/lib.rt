@@ -17,6 +17,3 @@ pub use laws::{
     covering_rules_match_more, kept_rules_are_of_the_block, kept_rules_match_together,
     weights_go_to_kept_rules,
 };
-
-#[cfg(test)]
-mod tests;

@@ -20,6 +20,3 @@ pub use laws::{
 pub use pf_calls::{CallFault, CallRow, call_fault};
 pub use pf_optim::Node;
 pub use rows::{call_row, call_rows, fewer_calls_stay_shallow, rows_tell_calls};
-
-#[cfg(test)]
-mod tests;

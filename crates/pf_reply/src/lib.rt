@@ -13,6 +13,3 @@ pub use kind::put_kind;
 pub use refusal::{Overfull, Refusal, put_refusal};
 pub use reply::{Filled, Listing, Reply, put_reply};
 pub use text::{put_count, put_path};
-
-#[cfg(test)]
-mod tests;

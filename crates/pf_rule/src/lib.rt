@@ -46,6 +46,3 @@ pub use testing::{Tested, hit};
 pub use translation::Target;
 pub use walk::{Answer, Decision, Marks, Walk};
 pub use walking::{laws_of_walks, views_walk_alike};
-
-#[cfg(test)]
-mod tests;

@@ -12,6 +12,3 @@ mod words;
 pub use change::{ChangeKind, Counts, TableFault};
 pub use decl::{Shelved, TableDecl, TableFlags};
 pub use shelf::Shelf;
-
-#[cfg(test)]
-mod tests;

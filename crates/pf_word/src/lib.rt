@@ -26,6 +26,3 @@ pub use number::{IdKind, read_ids, read_ports};
 pub use table::is_table_name;
 pub use target::read_target;
 pub use words::Words;
-
-#[cfg(test)]
-mod tests;
