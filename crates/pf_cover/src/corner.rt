@@ -78,7 +78,8 @@ pub(crate) fn ends_at(axis: Axis, criteria: &Criteria) -> Ends
     }
 }
 
-// The criteria that only their equals cover, one beside the other.
+// The criteria that only their equals cover, one beside the other. Each base is above the ends that it is for, and all
+// of them together are below 2^116.
 fn others_ends(criteria: &Criteria) -> Ends
     ensures { result ≡ others_ends criteria.now }
 {

@@ -34,8 +34,8 @@ abbrev pub unread_from : Stage → Answer → List (List ℕ)
 unread_from (going unit) answer = unread_in answer
 unread_from (failed fault) answer = []
 
--- What one call asks of the files, and what the reads are after it: they hold the readings that were made, also after a
--- fault, and the files of these names couldn't be read.
+-- What one call asks of the files, and what the reads are after it, also after a fault: the files of these names couldn't be
+-- read, and the reads are such as readings lead to, with names behind the others, each once, and bytes taken off.
 pub record AsksAndReads (names : List (List ℕ)) (old new : FilesTold) (reads later : ReadSoFar) : Type 0 where
   pub files : Asks names old new
   pub made : Made reads later

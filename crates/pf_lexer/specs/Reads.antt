@@ -28,8 +28,8 @@ has_read reads name bytes = record { names = with_name reads.names name; left = 
 abbrev pub has_numbered : ReadSoFar → List ℕ → ReadSoFar
 has_numbered reads name = record { names = with_name reads.names name; left = reads.left }
 
--- From some reads to later ones, these readings were made, one after the other, and no others: of a file, which was no
--- larger than it may be, or of one that was too large. A failed reading changes nothing.
+-- Some readings, one after the other, lead from these reads to the later ones: of a file that was no larger than it may be, or
+-- of one that was too large. A failed reading changes nothing.
 pub data Made : ReadSoFar → ReadSoFar → Type 0 where
   none : {reads : ReadSoFar} → Made reads reads
   read : {reads later : ReadSoFar} (name bytes : List ℕ)

@@ -113,8 +113,8 @@ impl From<NoMemory> for ReadsFault {
     }
 }
 
-/// What one load has read: the names of its files, in the order in which they were first read, and how many bytes
-/// it may still read.
+/// The files of one load by name, each at the place of its first reading, which is its number; and how many bytes are
+/// left to be read.
 #[derive(Debug, Drop)]
 pub struct Reads {
     names: IndexSet<FileName>,

@@ -13,7 +13,7 @@ use pf_token::{Lexeme, Macros, Reader, next_lexeme};
 use std::alloc::Global;
 
 /// The most tokens of a statement.
-const MOST_TOKENS: usize = 16384;
+const MOST_TOKENS: usize = 16_384;
 
 /// What ends a statement.
 #[derive(Clone, Copy, Debug, PartialEq, Eq)]

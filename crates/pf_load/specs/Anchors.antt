@@ -18,7 +18,7 @@ use Rattle.pf_fault.specs.declared.fault.Fault.{Fault}
 use Rattle.pf_load.specs.declared.reach.Reach.{Reach}
 use Rattle.pf_load.specs.declared.reach.Reach.TheVariants.{Nowhere, Here, Into}
 
--- only anchor rules have a call
+-- what stands as the call of rules that call nothing: no anchor rule has it
 abbrev pub no_call : Call
 no_call = record { base = Below; path = []; children = false }
 

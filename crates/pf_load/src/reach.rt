@@ -21,7 +21,7 @@ pub enum Reach {
     Into(Path),
 }
 
-/// Only anchor rules have a call.
+/// What stands as the call of rules that call nothing: no anchor rule has it, and no other rule's call is looked at.
 pub(crate) fn no_call() -> Call
     ensures { result ≡ says.no_call }
 {

@@ -11,7 +11,7 @@ use pf_decl::{OptionLine, QueueFault, Setting, check_queues};
 use pf_fault::Fault;
 use std::alloc::Global;
 
-/// The most rules of a ruleset.
+/// The most rules that a ruleset may have. Of those behind them one alone is kept, so a fault tells one more than these.
 const MOST_RULES: usize = 16_384;
 
 // A body that isn't closed.

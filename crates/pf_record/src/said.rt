@@ -18,7 +18,7 @@ use pf_ops::flags_of;
 use pf_rule::Packet;
 
 // The greatest port.
-const MOST_PORT: u32 = 65535;
+const MOST_PORT: u32 = 65_535;
 
 // The greatest number of a byte.
 const MOST_BYTE: u32 = 255;

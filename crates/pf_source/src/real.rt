@@ -16,7 +16,7 @@ use std::io::{Read, Write};
 use std::{fs, rt, str};
 
 /// How many bytes are asked of a file at a time.
-const CHUNK: usize = 65536;
+const CHUNK: usize = 65_536;
 
 /// The files that the runtime reaches.
 #[derive(Drop)]
@@ -33,6 +33,7 @@ impl<R: rt::Files> RealFiles<R> {
         RealFiles { rt, faults: 0 }
     }
 
+    // One fault more, and the fault to answer.
     fn count(&mut self) -> FilesFault
         ensures fault { result ≡ FilesFault.Failed }
         ensures faults { Rose self.old.faults self.new.faults }

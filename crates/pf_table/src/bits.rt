@@ -70,7 +70,7 @@ fn cleared(number: u128, count: u8) -> u128
         .unwrap_or(0)
 }
 
-// How many of the first bits two prefixes share, from `len` on, which they are known to share.
+// How many of the first bits two prefixes share, of which they are known to share `from`.
 pub(crate) fn shared(a: &Prefix, b: &Prefix, from: u8) -> u8
     requires family { width a.now.addr ≡ width b.now.addr }
     requires in_a { from ≤ a.now.len }

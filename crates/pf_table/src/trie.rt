@@ -21,6 +21,7 @@ pub(crate) fn root(addr: &Addr) -> usize
     ensures value { result ≡ root_of addr.now }
     ensures range { IsAddr addr.now }
 {
+    // Its clauses say that the address's number is within its family's width, which is the range.
     let _bits = number(addr);
     match addr {
         Addr::V4(_) => 0,

@@ -149,6 +149,7 @@ impl<P: Blank> Node<P> {
     {
         add_path(!self.payload.is_blank(), at, paths)?;
         for (name, child) in &self.children {
+            // What the child's type keeps of it, which the proof of its paths must know.
             let _payload = &child.payload;
             let Some(below) = at.child(name) else {
                 unreachable!()
