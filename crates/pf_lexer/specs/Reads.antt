@@ -88,8 +88,8 @@ pub record GoesOn (old new : List (List ℕ)) : Type 0 where
   pub is : new ≡ old ++ more
 
 -- the name of the reading that failed in a call
-abbrev pub unread_of : List ℕ → Result ReadFile ReadsFault → List (List ℕ)
-unread_of name (Ok file) = []
-unread_of name (Err faults.Failed) = name ∷ []
-unread_of name (Err (faults.TooLarge number)) = []
-unread_of name (Err faults.NoMemory) = []
+abbrev pub failed_read : List ℕ → Result ReadFile ReadsFault → List (List ℕ)
+failed_read name (Ok file) = []
+failed_read name (Err faults.Failed) = name ∷ []
+failed_read name (Err (faults.TooLarge number)) = []
+failed_read name (Err faults.NoMemory) = []

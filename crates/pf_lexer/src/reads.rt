@@ -7,7 +7,7 @@ ghost use Rattle.std.specs.Str.{bytes_eq};
 ghost use Rattle.pf_source.specs.Asks.{Asks};
 ghost use Rattle.pf_source.specs.Told.{Told, file_of};
 ghost use Rattle.pf_lexer.specs.declared.reads.ReadsFault.TheVariants.{NoMemory as no_memory};
-ghost use Rattle.pf_lexer.specs.Reads.{GoesOn, IfNamed, IfNumbered, IsLook, after_answer, look_up, number_of, read_limit, unread_of, with_name};
+ghost use Rattle.pf_lexer.specs.Reads.{GoesOn, IfNamed, IfNumbered, IsLook, after_answer, failed_read, look_up, number_of, read_limit, with_name};
 
 use indexmap::IndexSet;
 use pf_base::{List, NoMemory, Text};
@@ -155,7 +155,7 @@ impl Reads {
         ensures named { IfNamed self.new.names name.now result }
         ensures grows { GoesOn self.old.names self.new.names }
         ensures within { IfOk result (λ file. length file.text ≤ read_limit self.old.left) }
-        ensures asks { Asks (unread_of name.now result) (F.tells files.old) (F.tells files.new) }
+        ensures asks { Asks (failed_read name.now result) (F.tells files.old) (F.tells files.new) }
     {
         let key = copy_of(alloc, name)?;
         let limit = MOST.min(self.left);

@@ -75,8 +75,8 @@ pub(crate) fn call_of(
 }
 
 /// The call of a statement's rules.
-pub(crate) fn call_or_none(call: &Option<Call>) -> Call
-    ensures { result ≡ says.call_or_none call.now }
+pub(crate) fn call_of_rules(call: &Option<Call>) -> Call
+    ensures { result ≡ says.call_of_rules call.now }
 {
     match call {
         Some(call) => *call,

@@ -34,7 +34,7 @@ impl<R: rt::Files> RealFiles<R> {
     }
 
     // One fault more, and the fault to answer.
-    fn count(&mut self) -> FilesFault
+    fn fail(&mut self) -> FilesFault
         ensures fault { result ≡ FilesFault.Failed }
         ensures faults { Rose self.old.faults self.new.faults }
     {
@@ -105,7 +105,7 @@ impl<R: rt::Files> Files for RealFiles<R> {
                 seen: limit + 1,
             }),
             Err(Unread::NoMemory) => Err(FilesFault::NoMemory),
-            Err(_) => Err(self.count()),
+            Err(_) => Err(self.fail()),
         }
     }
 }
