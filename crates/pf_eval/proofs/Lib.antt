@@ -11,6 +11,4 @@ pub mod Named
 pub mod Answering
 pub mod Deeds
 pub mod Fewer
-pub mod Gathered
-pub mod Telling
 mod Examples
