@@ -4,7 +4,6 @@ pub mod Bounds
 pub mod Skipping
 pub mod Chained
 pub mod Behind
-pub mod Entries
 pub mod Arms
 pub mod Ends
 pub mod Named

@@ -2,7 +2,7 @@
 use Rattle.std.proofs.Common.{◌≡◌, ℕ, Bool, true, false, cond, List, [], ◌∷◌, length, ◌==◌, arith, refl, sym, ap, ◌∙◌}
 use Rattle.std.specs.List.{onto_first, slice_split}
 use Rattle.std.proofs.lemmas.Bool.{eqb-true}
-use Rattle.pf_base.specs.Text.{CutsLine, EndsNoLine, fields_of, is_nothing, is_space, line_of_rest, lines_of, unfinished, whole_lines}
+use Rattle.pf_base.specs.Text.{CutsLine, EndsNoLine, fields_of, is_space, line_of_rest, lines_of, unfinished, whole_lines}
 use Rattle.pf_host.specs.Line.{is_one}
 
 pub no_lines : lines_of [] ≡ []
@@ -36,9 +36,3 @@ pub not_one : (word rest : List ℕ) → is_one (word ∷ fields_of rest) ≡ fa
 unfolding fields_of
 not_one word [] = refl
 not_one word (x ∷ rest) = two_parts word (is_space x) x (slice_split is_space rest)
-
--- a word without bytes is no word
-pub nothing_empty : (word : List ℕ) (b : Bool) → (length word == 0) ≡ b → is_nothing word ≡ b
-nothing_empty [] b e = e
-nothing_empty (byte ∷ word) true e = let none : length (byte ∷ word) ≡ 0 = eqb-true (length (byte ∷ word)) 0 e in absurd (omega arith)
-nothing_empty (byte ∷ word) false e = refl

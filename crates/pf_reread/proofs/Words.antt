@@ -15,7 +15,6 @@ use Rattle.pf_syntax.specs.Symbols.{Symbol, bare, quoted, is_mark, is_word}
 use Rattle.pf_syntax.specs.Words.{in_range, is_name, is_quotable, name_of}
 use Rattle.pf_token.specs.Bytes.{class_of, is_word_byte, is_known}
 use Rattle.pf_reread.specs.TokenText.{is_known_byte, is_plain_class, is_plain_in_string, is_string_text, is_word_text}
-use Rattle.pf_reread.proofs.Following.{not_same}
 use Rattle.pf_reread.proofs.Glyphs.{is_spelled, symbol_text, weaker}
 
 -- a byte that passes one test passes another, where this holds of each byte of a table
@@ -187,10 +186,6 @@ decimal_of-decimal most n fits small = rw (number_some n small, all_digits n sma
 
 pub in_range-decimal : (least most n : ℕ) → least ≤ n → n ≤ most → n < 2 ^ 64 → in_range least (decimal_of most (decimal n)) ≡ Some n
 in_range-decimal least most n some fits small = rw (decimal_of-decimal most n fits small, le-leb least n some) refl
-
--- a number is no keyword
-pub number_not : (n : ℕ) (word : List ℕ) → n < 2 ^ 64 → list_all is_ascii_digit word ≡ false → bytes_eq (decimal n) word ≡ false
-number_not n word small other = not_same (list_all is_ascii_digit) (decimal n) word (all_digits n small) other
 
 pub number_begins : (n : ℕ) → n < 2 ^ 64 → list_all begins_word (decimal n) ≡ true
 number_begins n small = weaker is_ascii_digit begins_word digit_byte (decimal n) (all_digits n small)
