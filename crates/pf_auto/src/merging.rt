@@ -5,7 +5,6 @@ ghost use Rattle.std.specs.Option.{option_copied};
 ghost use Rattle.pf_auto.specs.Merged.{merge_of, merged_at};
 ghost use Rattle.pf_auto.specs.Putting.{behind, put_by, with_kept, with_lead};
 
-use crate::beside::Beside;
 use crate::gather::{gather, group_of};
 use crate::group::Group;
 use crate::place::{End, with_test};

@@ -4,7 +4,7 @@ ghost use Rattle.std.specs.Char.{is_ascii_digit};
 ghost use Rattle.std.specs.List.{list_all, slice_split};
 ghost use Rattle.pf_base.specs.Cuts.{IsFirst, NonePasses};
 ghost use Rattle.pf_base.specs.Decimal.{decimal_of, is_decimal};
-ghost use Rattle.pf_base.specs.Text.{CutsLine, CutsWord, EndsNoLine, LinesGoOn, fields_of, is_blank, is_newline, is_space, words_of};
+ghost use Rattle.pf_base.specs.Text.{CutsLine, CutsWord, EndsNoLine, LinesGoOn, fields_of, is_blank, words_of};
 
 const NEWLINE: u8 = b'\n';
 

@@ -1,5 +1,5 @@
 //! The rules of a block that are kept, and their weights.
-ghost use Rattle.std.specs.Prelude.{◌≡◌, ◌+◌, ◌<◌, ◌^◌, ◌++◌, [], ◌∷◌, ℕ, length, sum, IfOk, IsTrue, OnOk, slice_index_or, if◌then◌else◌};
+ghost use Rattle.std.specs.Prelude.{◌≡◌, ◌+◌, ◌<◌, ◌^◌, ◌++◌, [], ◌∷◌, length, sum, IfOk, IsTrue, OnOk, slice_index_or, if◌then◌else◌};
 ghost use Rattle.pf_cover.specs.Search.{HoldsCorners, dropped_of};
 ghost use Rattle.pf_cover.specs.Kept.{given_to_first, is_dropped, kept_places, kept_rules, kept_weights, own_weights};
 

@@ -1,9 +1,9 @@
 //! The entries of a table's file (pf.conf(5), TABLES, file).
-ghost use Rattle.std.specs.Prelude.{◌≡◌, ◌<◌, ◌-◌, ◌^◌, ◌++◌, ◌∷◌, [], length, map, OnOk, IfSome, IfNone, not, position};
+ghost use Rattle.std.specs.Prelude.{◌≡◌, ◌<◌, ◌-◌, ◌^◌, ◌∷◌, [], length, map, OnOk, IfSome, IfNone, not, position};
 ghost use Rattle.std.specs.List.{list_any};
 ghost use Rattle.pf_base.specs.Text.{lines_of};
 ghost use Rattle.pf_entries.specs.FileWords as says;
-ghost use Rattle.pf_entries.specs.FileWords.{EntryMeans, bits_at, bits_from, bits_of, unsigned, visible, words_in};
+ghost use Rattle.pf_entries.specs.FileWords.{unsigned, visible, words_in};
 ghost use Rattle.pf_entries.specs.Tables.{Gathers, file_in, line_at, word_at};
 ghost use Rattle.pf_host.specs.Facts.{HostFacts};
 ghost use Rattle.pf_word.specs.Hosts.{mask_fault};

@@ -1,8 +1,7 @@
 //! Declarations of tables (pf.conf(5), TABLES).
 ghost use Rattle.std.specs.Prelude.{◌≡◌, ℕ, ◌<◌, ◌≤◌, ◌∷◌, [], All, true, length, IfOk, OnOk, Contains, IfErr, List as Items};
-ghost use Rattle.std.specs.List.{flat_map, list_all, list_any};
+ghost use Rattle.std.specs.List.{flat_map, list_all};
 ghost use Rattle.std.specs.Option.{option_copied};
-ghost use Rattle.std.specs.Str.{bytes_eq};
 ghost use Rattle.pf_source.specs.Told.{Told, file_of};
 ghost use Rattle.pf_lexer.specs.Calls.{AsksAndReads};
 ghost use Rattle.pf_host.specs.Facts.{HostFacts};

@@ -5,7 +5,6 @@ ghost use Rattle.pf_lexer.specs.Calls.{AnswersNumbered, AsksAndReads, ComesAgain
 ghost use Rattle.pf_lexer.specs.Going.{stage_weight};
 ghost use Rattle.pf_lexer.specs.ReadSoFar.{ReadSoFar};
 ghost use Rattle.pf_lexer.specs.Reads.{number_of};
-ghost use Rattle.pf_lexer.specs.Stages.{Stage};
 ghost use Rattle.pf_lexer.specs.Units.{Begins, Handed, Leads, UnitOf};
 ghost use Rattle.pf_lexer.specs.Words.{FoundHasBytes};
 ghost use Rattle.pf_lexer.specs.declared.deed.Statement.{Statement};

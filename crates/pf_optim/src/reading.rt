@@ -1,5 +1,5 @@
 //! Reads a profile.
-ghost use Rattle.std.specs.Prelude.{◌≡◌, ◌∷◌, ◌++◌, ◌<◌, [], length, IfErr, IfNone, IfOk, IfSome};
+ghost use Rattle.std.specs.Prelude.{◌≡◌, ◌∷◌, ◌<◌, [], length, IfErr, IfNone, IfOk, IfSome};
 ghost use Rattle.pf_base.specs.Text.{fields_of, lines_of};
 ghost use Rattle.pf_optim.specs.Profile.{IsFaultAt, IsProfileText, Says, TellOf, is_passed_over};
 ghost use Rattle.pf_optim.specs.ProfileSteps.{IfLine, NoWords, SaysNothing, TakesOr, TakesRowOr, TellNothing, rows_of};

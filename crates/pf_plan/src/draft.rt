@@ -1,5 +1,5 @@
 //! A plan while it is made (pfctl(8), -f).
-ghost use Rattle.std.specs.Prelude.{◌≡◌, ◌++◌, ◌∷◌, [], ◌≤◌, length, IfOk, Some};
+ghost use Rattle.std.specs.Prelude.{◌≡◌, ◌++◌, ◌∷◌, [], ◌≤◌, IfOk, Some};
 ghost use Rattle.pf_plan.specs.Drafts as says;
 
 use crate::filled::FilledPaths;

@@ -1,5 +1,5 @@
 //! The end of a unit, and the plan of a load.
-ghost use Rattle.std.specs.Prelude.{◌≡◌, ◌++◌, ◌∷◌, ◌<◌, ℕ, map, IfOk, IfSome};
+ghost use Rattle.std.specs.Prelude.{◌≡◌, ◌++◌, ◌<◌, ℕ, map, IfOk, IfSome};
 ghost use Rattle.pf_plan.specs.Ends as says;
 ghost use Rattle.pf_plan.specs.Ends.{HasEndFault};
 ghost use Rattle.pf_plan.specs.Numbered.{PlacesWithin};

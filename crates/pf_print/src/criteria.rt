@@ -1,5 +1,5 @@
 //! The texts of what a rule tests (pf.conf(5), PARAMETERS).
-ghost use Rattle.std.specs.Prelude.{◌≡◌, ◌++◌, OnOk, codes, decimal};
+ghost use Rattle.std.specs.Prelude.{◌≡◌, ◌++◌, OnOk, codes};
 ghost use Rattle.std.specs.Option.{option_map};
 ghost use Rattle.pf_ops.specs.Words.{letters_of};
 ghost use Rattle.pf_parts.specs.Appending.{Extends};

@@ -1,5 +1,5 @@
 //! The macro that a word NAME=VALUE gives (pfctl(8), -D).
-ghost use Rattle.std.specs.Prelude.{◌≡◌, ℕ, true, false, None, Some, IfOk, IfSome, IfNone, length, nat_le, position, ◌==◌};
+ghost use Rattle.std.specs.Prelude.{◌≡◌, true, false, None, Some, IfOk, IfSome, IfNone, length, nat_le, position, ◌==◌};
 ghost use Rattle.std.specs.List.{list_all};
 ghost use Rattle.pf_token.specs.Bytes.{is_name_byte};
 ghost use Rattle.pf_script.specs.Word.{define_of, is_macro_name, most_value, name_in, value_in};

@@ -1,5 +1,5 @@
 //! Whether a plan may be put in place.
-ghost use Rattle.std.specs.Prelude.{◌≡◌, IfOk, [], ◌∷◌, map, None};
+ghost use Rattle.std.specs.Prelude.{◌≡◌, IfOk, [], None};
 ghost use Rattle.pf_base.specs.OrderedMap.{map_of};
 ghost use Rattle.pf_tree.specs.Order.{path_cmp};
 ghost use Rattle.pf_state.specs.Judging.{Judged, call_refusal};

@@ -1,12 +1,11 @@
 //! The prefixes that a host word means (pf.conf(5), PARAMETERS, from).
-ghost use Rattle.std.specs.Prelude.{◌≡◌, ◌≤◌, ◌||◌, ◌&&◌, length, map, Some, None, IfOk, if◌then◌else◌};
+ghost use Rattle.std.specs.Prelude.{◌≡◌, ◌≤◌, ◌&&◌, length, map, Some, None, IfOk, if◌then◌else◌};
 ghost use Rattle.std.specs.Option.{option_copied};
 ghost use Rattle.pf_addr.specs.Prefix.{whole};
 ghost use Rattle.pf_host.specs.Queries.{has_host, knows};
 ghost use Rattle.pf_word.specs.Coming.{Comes};
 ghost use Rattle.pf_word.specs.Hosts as says;
 ghost use Rattle.pf_word.specs.Hosts.{AddressMeans, HostWordMeans, MaskedMeans, WordMeans, meaning_of_name};
-ghost use Rattle.pf_word.specs.Suffixes.{taken_apart};
 ghost use Rattle.pf_word.specs.Words.{is_name};
 
 use crate::fault::ExpandFault;
