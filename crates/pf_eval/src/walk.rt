@@ -252,19 +252,11 @@ fn walk_child<P: Probe<L>, L: Ledger>(
     ensures counted { let trees = site.now.tree.now.payloads in let facts = site.now.facts.now in
         steps.new ≡ steps.old + (if is_reserved name.now then 0 else tests_left trees facts left (at.now ++ name.now ∷ []) (P.walk probe.old)) }
 {
-    if is_nameless(name) {
+    if name.is_reserved() {
         return;
     }
     let Some(child) = at.child(name) else {
         return;
     };
     walk_ruleset(site, &child, left, probe, steps);
-}
-
-// Whether a name is that of an anchor without a name: it begins with `_`.
-#[tactic(auto, unfolding(pf_base::specs::Path::is_reserved))]
-fn is_nameless(name: &Name) -> bool
-    ensures { result ≡ is_reserved name.now }
-{
-    matches!(name.bytes(), [b'_', ..])
 }
