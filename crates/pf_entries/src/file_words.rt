@@ -1,7 +1,6 @@
 //! The entries of a table's file (pf.conf(5), TABLES, file).
 ghost use Rattle.std.specs.Prelude.{◌≡◌, ◌<◌, ◌-◌, ◌^◌, ◌∷◌, [], length, map, OnOk, IfSome, IfNone, not, position};
 ghost use Rattle.std.specs.List.{list_any};
-ghost use Rattle.pf_base.specs.Text.{lines_of};
 ghost use Rattle.pf_entries.specs.FileWords as says;
 ghost use Rattle.pf_entries.specs.FileWords.{unsigned, visible, words_in};
 ghost use Rattle.pf_entries.specs.Tables.{Gathers, file_in, line_at, word_at};
@@ -10,7 +9,7 @@ ghost use Rattle.pf_word.specs.Hosts.{mask_fault};
 
 use crate::gathered::{Gathered, add_entry, add_fault};
 use pf_addr::{AddrFault, parse_prefix};
-use pf_base::text::split_line;
+use pf_base::text::next_line;
 use pf_base::{FaultKind, NoMemory, Place, named_in_fault};
 use pf_lexer::ReadFile;
 
@@ -75,24 +74,6 @@ fn next_word(text: &[u8]) -> Option<(&[u8], &[u8])>
     match place_of_gap(word) {
         None => Some((word, &[])),
         Some(end) => Some((&word[..end], &word[end..])),
-    }
-}
-
-// The first line, and the text behind it; None where no line is left.
-fn next_line(text: &[u8]) -> Option<(&[u8], &[u8])>
-    ensures line { IfSome result (λ cut. lines_of text.now ≡ cut.0.now ∷ lines_of cut.1.now) }
-    ensures shorter { IfSome result (λ cut. length cut.1.now < length text.now) }
-    ensures none { IfNone result (lines_of text.now ≡ []) }
-{
-    match split_line(text) {
-        Some((line, behind)) => Some((line, behind)),
-        None => {
-            if text.is_empty() {
-                None
-            } else {
-                Some((text, &[]))
-            }
-        }
     }
 }
 
