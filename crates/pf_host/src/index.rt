@@ -107,7 +107,7 @@ impl<T: Copy> Index<T> {
     pub(crate) fn all(&self, alloc: Global, name: &Name) -> Result<List<T>, NoMemory>
         ensures { IfOk result (λ values. values ≡ values_of self.now name.now) }
     {
-        Ok(List::of(Vec::from_slice(alloc, self.get(name))?))
+        List::copy_of(alloc, self.get(name))
     }
 }
 

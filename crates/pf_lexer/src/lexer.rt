@@ -11,10 +11,10 @@ ghost use Rattle.pf_lexer.specs.declared.deed.Statement.{Statement};
 ghost use Rattle.pf_lexer.specs.declared.fault.LexFault.{LexFault};
 
 use crate::deed::Statement;
-use crate::fault::{LexFault, copy_text};
+use crate::fault::LexFault;
 use crate::reads::Reads;
 use crate::unit::{OpenUnit, open_file};
-use pf_base::{NoMemory, Text};
+use pf_base::{List, NoMemory, Text};
 use pf_source::Files;
 use pf_token::{Macros, next_is_one};
 use std::alloc::Global;
@@ -63,7 +63,7 @@ impl Lexer {
         ensures lighter { IfOk result (λ lexer. stage_weight lexer.stage reads.new ≤ 2 ^ 65 * reads.old.left) }
         ensures asks { AsksAndReads (unread_in result) (F.tells files.old) (F.tells files.new) reads.old reads.new }
     {
-        let asked = copy_text(alloc, name)?;
+        let asked = List::copy_of(alloc, name.items())?;
         let top = open_file(alloc, files, reads, asked)?;
         Ok(Lexer {
             unit: OpenUnit::new(alloc, macros, top),

@@ -61,10 +61,8 @@ impl Hash for FileName {
 fn copy_of(alloc: Global, name: &Text) -> Result<FileName, NoMemory>
     ensures { IfOk result (λ copy. copy ≡ name.now) }
 {
-    let bytes = Vec::from_slice(alloc, name.items())?;
-    Ok(FileName {
-        text: List::of(bytes),
-    })
+    let text = List::copy_of(alloc, name.items())?;
+    Ok(FileName { text })
 }
 
 // The number of the name, which is added last where it is new.

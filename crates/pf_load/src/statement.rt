@@ -246,7 +246,7 @@ fn take_load(
     ) {
         Some(fault) => Err(Stop::Fault(fault)),
         None => {
-            let file = List::of(Vec::from_slice(alloc, file.items())?);
+            let file = List::copy_of(alloc, file.items())?;
             let draft = reach::awaiting(draft, &reach, file)?;
             Ok(draft)
         }

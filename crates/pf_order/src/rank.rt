@@ -24,15 +24,7 @@ pub fn order_gain(alloc: Global, rules: &[Rule]) -> Result<List<Rule>, NoMemory>
     if gain(rules) < gain(sorted.items()) {
         return Ok(sorted);
     }
-    let same = copied(alloc, rules)?;
-    Ok(same)
-}
-
-fn copied(alloc: Global, rules: &[Rule]) -> Result<List<Rule>, NoMemory>
-    ensures { IfOk result (λ same. same ≡ rules.now) }
-{
-    let mut same = List::new(alloc);
-    same.append_copy(rules)?;
+    let same = List::copy_of(alloc, rules)?;
     Ok(same)
 }
 

@@ -67,6 +67,6 @@ pub(crate) fn read_definition(alloc: Global, word: &[u8]) -> Result<Option<Defin
     if !is_value(value) {
         return Ok(None);
     }
-    let value = List::of(Vec::from_slice(alloc, value)?);
+    let value = List::copy_of(alloc, value)?;
     Ok(Some(Define { name, value }))
 }
