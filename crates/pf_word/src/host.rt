@@ -104,8 +104,8 @@ fn word_prefixes(alloc: Global, word: &[u8], facts: &Facts) -> Result<List<Prefi
     }
 }
 
-// The fault of a word with a mask.
-fn mask_fault(word: &[u8], fault: AddrFault) -> FaultKind
+/// The fault of a word that is no prefix: `MaskTooLong` where only its mask is too great, else `NotAnAddress` with the word.
+pub fn mask_fault(word: &[u8], fault: AddrFault) -> FaultKind
     requires { 1 ≤ length word.now }
     ensures { result ≡ says.mask_fault word.now fault }
 {
