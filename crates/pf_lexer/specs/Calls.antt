@@ -29,6 +29,11 @@ abbrev pub unread_in : {T : Type 0} → Result T LexFault → List (List ℕ)
 unread_in (Ok x) = []
 unread_in (Err fault) = unread_by fault
 
+-- the name of the file for which the fault that ends a unit comes
+abbrev pub unread_at_end : Option LexFault → List (List ℕ)
+unread_at_end None = []
+unread_at_end (Some fault) = unread_by fault
+
 -- the names of the reads that failed in a call: where a fault comes again, none did
 abbrev pub unread_from : Stage → Answer → List (List ℕ)
 unread_from (going unit) answer = unread_in answer

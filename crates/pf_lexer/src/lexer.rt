@@ -1,7 +1,7 @@
 //! The statements of a unit, one after the other: a file, with each include replaced by that file's statements, pf.conf(5).
 ghost use Rattle.std.specs.Prelude.{◌≡◌, ℕ, ◌*◌, ◌^◌, ◌<◌, ◌≤◌, None, Option, List, IfOk, IfErr, OnSome, length};
 ghost use Rattle.pf_source.specs.Told.{Told, file_of};
-ghost use Rattle.pf_lexer.specs.Calls.{AnswersNumbered, AsksAndReads, ComesAgain, IfAgain, IsGoing, IsTrueTo, IsNumbered, IsUnopened, StopsWith, failed_by, unread_from, unread_in};
+ghost use Rattle.pf_lexer.specs.Calls.{AnswersNumbered, AsksAndReads, ComesAgain, IfAgain, IsGoing, IsTrueTo, IsNumbered, IsUnopened, StopsWith, failed_by, unread_at_end, unread_from, unread_in};
 ghost use Rattle.pf_lexer.specs.Going.{stage_weight};
 ghost use Rattle.pf_lexer.specs.ReadSoFar.{ReadSoFar};
 ghost use Rattle.pf_lexer.specs.Reads.{number_of};
@@ -136,8 +136,10 @@ fn read_on<F: Files>(
     reads: &mut Reads,
     lexer: Lexer,
 ) -> Result<UnitStatements, NoMemory>
-    requires { lexer.known ≤ length reads.old.names }
-    ensures { IfOk result (λ found. Told (F.tells files.old).held (λ held. Handed (file_of held) lexer.stage reads.old found.statements.items found.fault reads.new)) }
+    requires known { lexer.known ≤ length reads.old.names }
+    requires going { IsGoing lexer.stage }
+    ensures handed { IfOk result (λ found. Told (F.tells files.old).held (λ held. Handed (file_of held) lexer.stage reads.old found.statements.items found.fault reads.new)) }
+    ensures asks { IfOk result (λ found. AsksAndReads (unread_at_end found.fault) (F.tells files.old) (F.tells files.new) reads.old reads.new) }
 {
     let mut lexer = lexer;
     let mut statements = Vec::new(alloc);
@@ -162,7 +164,7 @@ fn read_on<F: Files>(
 }
 
 /// All statements of the unit whose first file has this name. Its contract is the law that the calls of a lexer hand out
-/// a unit's statements, and no others; when a read may fail is said by the calls themselves.
+/// a unit's statements, and no others. `CannotRead` comes only where a read of that file failed.
 pub fn read_unit<F: Files>(
     alloc: Global,
     files: &mut F,
@@ -175,6 +177,7 @@ pub fn read_unit<F: Files>(
         (others : List Statement) (fault : Option LexFault) (later : ReadSoFar) →
         UnitOf (file_of held) macros name.now reads.old others fault later → IsTrueTo (file_of held) found.fault → IsTrueTo (file_of held) fault →
         (found.statements.items ≡ others) × (found.fault ≡ fault) × (reads.new ≡ later))) }
+    ensures asks { IfOk result (λ found. AsksAndReads (unread_at_end found.fault) (F.tells files.old) (F.tells files.new) reads.old reads.new) }
 {
     next_is_one();
     match Lexer::begin(alloc, files, reads, name, macros) {
