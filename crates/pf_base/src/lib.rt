@@ -21,7 +21,7 @@ pub mod text;
 pub use fault::{FaultKind, Place};
 pub use kind::{Family, Level};
 pub use list::{List, Text};
-pub use map::{map_laws, name_map_laws, path_map_laws};
+pub use map::{name_map_laws, path_map_laws};
 pub use memory::NoMemory;
 pub use name::{Name, named_in_fault};
 pub use path::Path;

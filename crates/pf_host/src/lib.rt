@@ -16,7 +16,6 @@ mod names;
 pub mod read;
 mod row;
 mod statement;
-mod values;
 
 pub use facts::Facts;
 pub use fault::{FactsCause, FactsFault};

@@ -6,7 +6,7 @@ ghost use Rattle.pf_optim.specs.Meaning.{are_written};
 
 use pf_addr::{Addr, Ifaces, Prefix};
 use pf_base::{Family, Level, List, Name, NoMemory, Path, Steps, Uncounted};
-use pf_eval::{CallFault, Node, call_fault, call_rows, eval, rows_tell_calls};
+use pf_eval::{Node, eval};
 use pf_host::Facts;
 use pf_ops::{Op16, OpKind};
 use pf_optim::optimise;
@@ -259,24 +259,6 @@ fn anchors_in_trees(rt: HostRuntime) -> Result<(), Fail> {
         "out",
     )?;
     answers(&rt, alloc, "/ *; a block!=a; b pass=b", "block", "a")?;
-    Ok(())
-}
-
-// The fault of the calls in the rulesets of the text.
-fn fault(rt: &impl Abort, alloc: Global, text: &str) -> Result<Option<CallFault>, Fail> {
-    rows_tell_calls();
-    let tree = tree_of(rt, alloc, text)?;
-    let rows = call_rows(alloc, &tree)?;
-    let fault = call_fault(alloc, &rows)?;
-    Ok(fault)
-}
-
-#[test]
-fn calls_in_trees(rt: HostRuntime) -> Result<(), Fail> {
-    let alloc = rt.alloc();
-    assert_eq!(rt; fault(&rt, alloc, "/ x; x ../y; y pass")?, None);
-    let cycle = CallFault::Cycle(path(&rt, "x"));
-    assert_eq!(rt; fault(&rt, alloc, "/ x; x ../y; y /x")?, Some(cycle));
     Ok(())
 }
 

@@ -18,7 +18,7 @@ pub mod target;
 pub mod words;
 
 pub use fault::ExpandFault;
-pub use host::host_prefixes;
+pub use host::{host_prefixes, mask_fault};
 pub use item::read_hosts;
 pub use kind::{read_icmp, read_protos};
 pub use laws::{each_word_means_something, words_have_one_meaning};

@@ -1,6 +1,6 @@
 use Rattle.std.proofs.Common.{sym, ◌∙◌}
-use Rattle.pf_entries.proofs.TextLines.{empty_lines, first_line, last_line}
-use Rattle.pf_entries.proofs.file_words.next_line.Goals as goal
+use Rattle.pf_base.proofs.TextLines.{empty_lines, first_line, last_line}
+use Rattle.pf_base.proofs.text.next_line.Goals as goal
 
 pub returns-in-Some-clause-line : goal.returns-in-Some-clause-line
 returns-in-Some-clause-line c = first_line c.args.text.now c.in-Some.line.now c.in-Some.behind.now c.in-Some.ensures.line
