@@ -1,5 +1,5 @@
 -- The number that octets or groups stand for, and that a text writes one number at most.
-use Rattle.std.proofs.Common.{◌≡◌, ℕ, ◌-◌, ◌<◌, List, [], ◌∷◌, ◌++◌, length, replicate, sym, ap, ◌∙◌, arith, inl, inr, lit≤, length-append}
+use Rattle.std.proofs.Common.{◌≡◌, ℕ, ◌-◌, List, [], ◌∷◌, ◌++◌, length, replicate, sym, ap, ◌∙◌, arith, inl, inr, lit≤, length-append}
 use Rattle.std.proofs.lemmas.List.{length-replicate}
 use Rattle.std.specs.Int.{w32, w128, from_be_bytes}
 use Rattle.std.specs.Int.Digits.{number_from_digits}
@@ -44,10 +44,6 @@ pub IsIpv6-unique : (text : List ℕ) (m n : ℕ) → IsIpv6 text m → IsIpv6 t
 IsIpv6-unique text m n h k =
     let same = same_parts _ _ _ _ (sym (read_ipv6_complete text _ [] h.hex EndsGroups-nil) ∙ read_ipv6_complete text _ [] k.hex EndsGroups-nil) in
     h.value ∙ ap (number_from_digits 65536) same.0 ∙ sym k.value
-
--- no text is of both families
-pub IsIpv4-not_ipv6 : (text : List ℕ) (m n : ℕ) → IsIpv4 text m → IsIpv6 text n → 0 < 0
-IsIpv4-not_ipv6 text m n h k = absurd (IsDotted-not_colon_hex text _ _ h.dotted k.hex)
 
 pub IsAddrText-unique : (text : List ℕ) (a b : Addr) → IsAddrText text a → IsAddrText text b → a ≡ b
 IsAddrText-unique text (V4 m) (V4 n) h k = ap V4 (IsIpv4-unique text m n h k)

@@ -45,8 +45,8 @@ impl Addr {
         other.is_of(self.family())
     }
 
-    // How many bits an address of this family has.
-    pub(crate) fn width(&self) -> u8
+    /// How many bits an address of its family has: 32 or 128.
+    pub fn width(&self) -> u8
         ensures { result ≡ width self.now }
     {
         match self {
@@ -55,8 +55,8 @@ impl Addr {
         }
     }
 
-    // The number of either family.
-    pub(crate) fn number(&self) -> u128
+    /// Its bits as a number, whatever its family.
+    pub fn number(&self) -> u128
         ensures value { result ≡ number self.now }
         ensures range { IsAddr self.now }
     {
@@ -66,8 +66,8 @@ impl Addr {
         }
     }
 
-    // The address with all bits but the first `len` as zero.
-    pub(crate) fn network(&self, len: u8) -> Addr
+    /// The address with all bits but the first `len` as zero.
+    pub fn network(&self, len: u8) -> Addr
         requires { len ≤ width self.now }
         ensures { result ≡ network self.now len }
     {

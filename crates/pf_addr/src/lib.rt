@@ -1,7 +1,8 @@
 //! Addresses, prefixes and ranges of IPv4 and IPv6, and their texts. It stands on pf_base (names, want of
-//! memory) and on std's readers and printers of addresses. The layers above use that a prefix or a range is
-//! a set of addresses, that each text writes at most one address or prefix and exactly the texts of the
-//! form are read, and that what is printed reads back as itself.
+//! memory) and on std's readers of addresses; it prints by itself, since std's printer writes the end of some
+//! addresses of IPv6 with dots. The layers above use that a prefix or a range is a set of addresses, that each
+//! text writes at most one address or prefix and exactly the texts of the form are read, and that what is
+//! printed reads back as itself.
 #![tactic(auto)]
 
 pub mod addr;
@@ -25,6 +26,3 @@ pub use prefix::Prefix;
 pub use print::{put_addr, put_prefix};
 pub use range::{Range, RangeFault};
 pub use stretch::Stretch;
-
-#[cfg(test)]
-mod tests;

@@ -26,7 +26,7 @@ pub enum RangeFault {
 }
 
 impl Range {
-    ghost use Rattle.pf_addr.specs.Addr.{IsAddr, family_of};
+    ghost use Rattle.pf_addr.specs.Addr.{family_of};
     ghost use Rattle.pf_addr.specs.declared.addr.Addr.{Addr as Address};
     ghost use Rattle.pf_addr.specs.Range.{contains, HasEnds, OutOfOrder};
     ghost use Rattle.pf_addr.specs.Stretch.{IsStretch, range_stretch};

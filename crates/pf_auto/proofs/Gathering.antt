@@ -34,10 +34,6 @@ put_back end place rule weight prefix key old e =
     ] refl in
     step ∙ sym (ap (λ (o : Option Prefix). cond (is_some o && b) (grown_by o weight (unwrap_or (old key) (begun place))) (old key)) e)
 
-pub stays_out : (end : End) (place : ℕ) (rule : Rule) (weight : ℕ) (key : Rule) (old : Option Group) → prefix_at end rule ≡ None → old ≡ after end place (rule, weight) key old
-stays_out end place rule weight key old e =
-    sym (ap (λ (o : Option Prefix). cond (is_some o && rules.same (beside end rule) key) (grown_by o weight (unwrap_or old (begun place))) old) e)
-
 -- one rule more in the list
 any_one : (x : Bool) → (x || false) ≡ x
 any_one true = refl

@@ -1,5 +1,5 @@
 //! A group of rules that differ at one end alone.
-ghost use Rattle.std.specs.Prelude.{◌≡◌, ◌+◌, ◌<◌, ◌^◌, [], IfOk, OnOk};
+ghost use Rattle.std.specs.Prelude.{◌≡◌, ◌+◌, ◌<◌, ◌^◌, [], IfOk};
 ghost use Rattle.pf_table.specs.Table.{entries_of, table_of};
 ghost use Rattle.pf_auto.specs.Groups.{grown};
 

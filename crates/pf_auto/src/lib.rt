@@ -16,6 +16,3 @@ pub use laws::{
 };
 pub use merging::{AutoTable, Merged, merge};
 pub use place::End;
-
-#[cfg(test)]
-mod tests;

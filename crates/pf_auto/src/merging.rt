@@ -5,7 +5,6 @@ ghost use Rattle.std.specs.Option.{option_copied};
 ghost use Rattle.pf_auto.specs.Merged.{merge_of, merged_at};
 ghost use Rattle.pf_auto.specs.Putting.{behind, put_by, with_kept, with_lead};
 
-use crate::beside::Beside;
 use crate::gather::{gather, group_of};
 use crate::group::Group;
 use crate::place::{End, with_test};
@@ -30,10 +29,9 @@ pub struct Merged {
     pub tables: List<AutoTable>,
 }
 
-/// Combines groups of six or more rules of one block that are equal in all but a prefix without `!` as their source, and
-/// then of those that result all but the target, each into one rule with a table of these prefixes, where the first stood,
-/// with their weights together (pf.conf(5), "set ruleset-optimization": rules are combined into a table when advantageous).
-/// The tables are numbered in the order of these rules, from the first number on.
+/// Combines groups of six or more rules of a block that are equal but for a prefix without `!` as their source, and of what
+/// results then by target, each into one rule with a table, at the place of the first and with their weights together; tables
+/// are numbered in this order (pf.conf(5), "set ruleset-optimization": rules are combined into a table when advantageous).
 pub fn merge(
     alloc: Global,
     rules: &[Rule],

@@ -3,4 +3,5 @@ pub mod Lines
 pub mod PathGrammar
 pub mod PathReads
 pub mod Paths
+pub mod TextLines
 pub mod Words

@@ -79,14 +79,6 @@ first_part p (x ∷ xs) =
       | false ↦ (x ∷ rest.0, rest.1, ap (onto_first x) rest.2)
     ]
 
-front_and_last : {X : Type 0} (part : List X) (parts : List (List X)) → but_last (part ∷ parts) ++ last_part (part ∷ parts) ∷ [] ≡ part ∷ parts
-front_and_last part [] = refl
-front_and_last part (next ∷ parts) = ap (λ rest. part ∷ rest) (front_and_last next parts)
-
--- a list of parts is its front and its last one
-pub parts_last : {X : Type 0} (p : X → Bool) (xs : List X) → but_last (slice_split p xs) ++ last_part (slice_split p xs) ∷ [] ≡ slice_split p xs
-parts_last p xs = let parts = first_part p xs in rw parts.2 (front_and_last parts.0 parts.1)
-
 push_front : {X : Type 0} (x : X) (p : X → Bool) (ys : List X) (part : List X) (parts : List (List X)) → p x ≡ false → onto_first x (but_last (part ∷ parts) ++ slice_split p (last_part (part ∷ parts) ++ ys)) ≡ but_last ((x ∷ part) ∷ parts) ++ slice_split p (last_part ((x ∷ part) ∷ parts) ++ ys)
 push_front x p ys part [] h = rw h refl
 push_front x p ys part (next ∷ parts) h = refl

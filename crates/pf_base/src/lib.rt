@@ -21,7 +21,7 @@ pub mod text;
 pub use fault::{FaultKind, Place};
 pub use kind::{Family, Level};
 pub use list::{List, Text};
-pub use map::{map_laws, name_map_laws, path_map_laws};
+pub use map::{name_map_laws, path_map_laws};
 pub use memory::NoMemory;
 pub use name::{Name, named_in_fault};
 pub use path::Path;
@@ -29,8 +29,3 @@ pub use path_fault::PathFault;
 pub use plain::{is_plain_byte, plain_name};
 pub use same::Same;
 pub use steps::{Ledger, Steps, Uncounted};
-
-#[cfg(test)]
-mod path_tests;
-#[cfg(test)]
-mod tests;

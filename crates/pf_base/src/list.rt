@@ -69,6 +69,13 @@ impl<T: Drop> List<T> {
 }
 
 impl<T: Copy> List<T> {
+    /// The list of copies of these items.
+    pub fn copy_of(alloc: Global, items: &[T]) -> Result<List<T>, NoMemory>
+        ensures { IfOk result (λ list. list ≡ items.now) }
+    {
+        Ok(List::of(Vec::from_slice(alloc, items)?))
+    }
+
     /// The list of one item.
     pub fn one_copy(alloc: Global, item: &T) -> Result<List<T>, NoMemory>
         ensures { IfOk result (λ list. list ≡ item.now ∷ []) }

@@ -1,7 +1,7 @@
 //! Want of memory.
 use std::alloc::{AllocError, AllocFailed};
 
-/// No memory was found.
+/// No memory was found. A count that its type couldn't hold is answered so as well: there is no memory for so many.
 #[derive(Clone, Copy, Debug, PartialEq, Eq)]
 pub struct NoMemory;
 

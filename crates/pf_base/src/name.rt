@@ -41,6 +41,8 @@ impl Model for Name {
 }
 
 impl Name {
+    ghost use Rattle.pf_base.specs.Path.{is_reserved};
+
     /// The longest name.
     pub const MOST: usize = 63;
 
@@ -66,6 +68,15 @@ impl Name {
         ensures text { IsNameText self.now }
     {
         &self.bytes[..self.len as usize]
+    }
+
+    /// Whether it begins with `_`, as in paths the names of anchors without a name alone do (pf.conf(5), ANCHORS). Takes
+    /// no memory.
+    #[tactic(auto, unfolding(crate::specs::Path::is_reserved))]
+    pub fn is_reserved(&self) -> bool
+        ensures { result ≡ is_reserved self.now }
+    {
+        matches!(self.bytes(), [b'_', ..])
     }
 }
 

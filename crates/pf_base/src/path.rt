@@ -112,8 +112,8 @@ impl Path {
         }
     }
 
-    /// The path with this name added last, or None exactly where it has 8 names already or the name
-    /// has a byte that no name of a path has or is `.` or `..`.
+    /// The path one name further down. None exactly where it would have more than 8 names, and for a name that
+    /// no path can have: `.`, `..`, or one with a byte outside the form.
     #[tactic(auto, unfolding(crate::specs::Path::child_path))]
     pub fn child(&self, name: &Name) -> Option<Path>
         ensures { result ≡ child_path self.now name.now }

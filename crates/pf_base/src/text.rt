@@ -4,7 +4,7 @@ ghost use Rattle.std.specs.Char.{is_ascii_digit};
 ghost use Rattle.std.specs.List.{list_all, slice_split};
 ghost use Rattle.pf_base.specs.Cuts.{IsFirst, NonePasses};
 ghost use Rattle.pf_base.specs.Decimal.{decimal_of, is_decimal};
-ghost use Rattle.pf_base.specs.Text.{CutsLine, CutsWord, EndsNoLine, LinesGoOn, fields_of, is_blank, is_newline, is_space, words_of};
+ghost use Rattle.pf_base.specs.Text.{CutsLine, CutsWord, EndsNoLine, LinesGoOn, fields_of, is_blank, lines_of, words_of};
 
 const NEWLINE: u8 = b'\n';
 
@@ -43,6 +43,24 @@ pub fn split_line(text: &[u8]) -> Option<(&[u8], &[u8])>
 {
     let end = place_of(text, NEWLINE)?;
     Some((&text[..end], &text[end + 1..]))
+}
+
+/// The first line of a whole text, of which the last needs no newline, and the text behind it; None where no line is left.
+pub fn next_line(text: &[u8]) -> Option<(&[u8], &[u8])>
+    ensures line { IfSome result (λ cut. lines_of text.now ≡ cut.0.now ∷ lines_of cut.1.now) }
+    ensures shorter { IfSome result (λ cut. length cut.1.now < length text.now) }
+    ensures none { IfNone result (lines_of text.now ≡ []) }
+{
+    match split_line(text) {
+        Some((line, behind)) => Some((line, behind)),
+        None => {
+            if text.is_empty() {
+                None
+            } else {
+                Some((text, &[]))
+            }
+        }
+    }
 }
 
 /// A text that goes on has its lines, and then those of its unfinished line with what follows.

@@ -59,9 +59,6 @@ below_true i n h = ltb-true i n h
 true_below : (i n : ℕ) → i < n → nat_lt i n ≡ true
 true_below i n lt = lt-ltb i n lt
 
-pub links_none : (rows : List CallRow) → IsLinked rows 0 []
-links_none rows = record { long = refl; each = λ i lt. absurd (omega arith) }
-
 pub links_more : (rows : List CallRow) → IsStrictlySortedBy path_cmp (paths_of rows) → (i : ℕ) (row : CallRow) (links : List (List ℕ)) (found : List ℕ) → i < length rows → row ≡ slice_index_or rows i row → IsLinked rows i links → Reaches rows [] (flat_map (called (paths_of rows) row.path) row.calls) found → IsLinked rows (i + 1) (links ++ found ∷ [])
 links_more rows sorted i row links found lt is linked reaches = record {
   long = (let many = linked.long in let more = length-append links (found ∷ []) in omega arith);

@@ -16,9 +16,6 @@ use Rattle.pf_calls.specs.Links.{IsChild, Reaches}
 use Rattle.pf_calls.proofs.Children.{children_are, are_children}
 use Rattle.pf_calls.proofs.Placed.{among_paths}
 
-pub reaches_none : (rows : List CallRow) (links : List ℕ) → Reaches rows links [] links
-reaches_none rows links = record { kept = λ j h. h; within = λ j h. inl h; all = λ j lt h. absurd (none_in (path_at rows j) h) }
-
 pub reaches_more : (rows : List CallRow) (a b c : List ℕ) (ps qs : List (List (List ℕ))) → Reaches rows a ps b → Reaches rows b qs c → Reaches rows a (ps ++ qs) c
 reaches_more rows a b c ps qs first second = record {
   kept = λ j h. second.kept j (first.kept j h);
@@ -37,12 +34,6 @@ reaches_next rows f calls i call a b c lt is first second =
     let one = append-nil (f call) in
     subst (λ ps. Reaches rows a ps c) (sym (front ∙ ap (λ qs. flat_map f (take i calls) ++ qs) one)) (reaches_more rows a b c (flat_map f (take i calls)) (f call) first second)
 
--- a path that no row has adds nothing
-pub reaches_nowhere : (rows : List CallRow) (links : List ℕ) (path : List (List ℕ)) → ((i : ℕ) → i < length rows → path_at rows i ≡ path → ⊥) → Reaches rows links (path ∷ []) links
-reaches_nowhere rows links path none = record {
-  kept = λ j h. h;
-  within = λ j h. inl h;
-  all = λ j lt h. elim (in_cons path [] (path_at rows j) h) [ inl same ↦ absurd (none j lt (sym same)) | inr later ↦ absurd (none_in (path_at rows j) later) ];
 }
 
 -- the place of a path that one row has
@@ -72,9 +63,6 @@ pub record ReachesFront (rows : List CallRow) (old : List ℕ) (at : List (List 
   pub kept : (j : ℕ) → Contains old j → Contains new j
   pub within : (j : ℕ) → Contains new j → Contains old j ⊎ ((j < length rows) × IsChild at (path_at rows j))
   pub all : (j : ℕ) → j < count → IsChild at (path_at rows j) → Contains new j
-
-pub front_none : (rows : List CallRow) (old : List ℕ) (at : List (List ℕ)) → ReachesFront rows old at 0 old
-front_none rows old at = record { kept = λ j h. h; within = λ j h. inl h; all = λ j lt child. absurd (omega arith) }
 
 pub below_or_here : (j i : ℕ) → j < i + 1 → (j < i) ⊎ (i ≡ j)
 below_or_here j i lt = elim (cases_lt j i) [ inl below ↦ inl below | inr above ↦ inr (omega arith) ]

@@ -1,6 +1,6 @@
 -- Round by round, the places whose rank is within a bound.
 use Rattle.std.proofs.Common.{◌≡◌, ℕ, zero, suc, ◌+◌, ◌<◌, ◌≤◌, ◌⊎◌, Bool, true, false, List, [], ◌∷◌, ◌++◌, length, take, add-one, refl, sym, ap, ◌∙◌, subst, inl, inr, arith}
-use Rattle.std.specs.Prelude.{Contains, slice_index_or, not}
+use Rattle.std.specs.Prelude.{Contains, slice_index_or}
 use Rattle.std.specs.List.{list_all, list_any}
 use mathlib.Core.Bool.{beq}
 use Rattle.std.proofs.lemmas.Bool.{cases_lt, false≢true, lt-ltb}
@@ -11,9 +11,6 @@ use Rattle.pf_calls.specs.Numbered.{IsDepth, IsInside, IsOver, IsRound, next_rou
 same_tests : {X : Type 0} (p q : X → Bool) (xs : List X) → ((x : X) → Contains xs x → p x ≡ q x) → list_all p xs ≡ list_all q xs
 same_tests p q [] h = refl
 same_tests p q (x ∷ xs) h = rw (h x (now_in x xs), same_tests p q xs (λ y within. h y (later_in x xs y within))) refl
-
-pub round_begun : (links : List (List ℕ)) (within : List Bool) → length within ≡ length links → ((i : ℕ) → i < length links → slice_index_or within i false ≡ false) → IsRound links 0 within
-round_begun links within long none = record { long = long; each = λ i lt. none i lt ∙ sym (ap not (lt-ltb i (length links) lt)) }
 
 pub round_more : (links : List (List ℕ)) (rank : ℕ) (within : List Bool) → IsInside links → IsRound links rank within → IsRound links (rank + 1) (next_round links within)
 round_more links rank within inside round = record {
@@ -46,10 +43,6 @@ told_true [] h k lt = absurd (omega arith)
 told_true (false ∷ within) h k lt = absurd (false≢true (sym h))
 told_true (true ∷ within) h zero lt = refl
 told_true (true ∷ within) h (suc k) lt = told_true within h k (omega arith)
-
--- nothing is within 0
-pub over_zero : (links : List (List ℕ)) → 0 < length links → (before : ℕ) → before ≤ 0 → IsOver links before
-over_zero links some before few = subst (λ (n : ℕ). IsOver links n) (let same : 0 ≡ before = omega arith in same) (record { place = 0; inside = some; over = ap not (lt-ltb 0 (length links) some) })
 
 -- a round that is full tells the greatest rank
 pub depth_found : (links : List (List ℕ)) (rank : ℕ) (within : List Bool) → IsRound links (rank + 1) within → list_any (λ y. beq y false) within ≡ false → ((before : ℕ) → before ≤ rank → IsOver links before) → IsDepth links (rank + 1)

@@ -65,16 +65,6 @@ search_ended links start seen search = (
   λ cycle. seen_over links start seen search cycle.more start start search.begun cycle.leads,
 )
 
-pub mark_none : (seen : List Bool) (todo : List ℕ) → IsMarked seen todo [] seen todo
-mark_none seen todo = record {
-  long = refl;
-  kept = λ j h. h;
-  marked = λ j h. absurd (none_in j h);
-  only = λ j h. inl h;
-  still = λ j h. h;
-  new = λ j h. inl h;
-  from = λ j h. inl h;
-  fewer = refl;
 }
 
 -- a place that was seen before

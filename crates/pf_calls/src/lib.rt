@@ -11,6 +11,3 @@ mod search;
 
 pub use calls::{MOST_CALLS, acyclic_calls_have_ranks, call_fault};
 pub use row::{CallFault, CallRow, paths_ascend};
-
-#[cfg(test)]
-mod tests;

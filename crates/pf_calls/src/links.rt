@@ -2,7 +2,6 @@
 ghost use Rattle.std.specs.Prelude.{◌≡◌, [], IfOk, OnOk, length};
 ghost use Rattle.std.specs.List.{flat_map};
 ghost use Rattle.std.specs.List.Sorted.{IsStrictlySortedBy};
-ghost use Rattle.pf_base.specs.Path.{is_reserved};
 ghost use Rattle.pf_tree.specs.Order.{path_cmp};
 ghost use Rattle.pf_calls.specs.Calls.{called, children_of, graph_of, paths_of};
 ghost use Rattle.pf_calls.specs.Numbered.{IsCopy, IsInside, IsPlaceOf, numbered, path_at};
@@ -10,7 +9,7 @@ ghost use Rattle.std.specs.Bool.{Decides};
 ghost use Rattle.pf_calls.specs.Links.{IsChild, Reaches};
 
 use crate::row::CallRow;
-use pf_base::{List, Name, NoMemory, Path};
+use pf_base::{List, NoMemory, Path};
 use pf_parts::Call;
 use std::alloc::Global;
 use std::cmp::Ordering;
@@ -28,21 +27,13 @@ fn place_of(rows: &[CallRow], path: &Path) -> Option<usize>
     .ok()
 }
 
-// Whether a name is that of an anchor without a name: it begins with `_`.
-#[tactic(auto, unfolding(pf_base::specs::Path::is_reserved))]
-fn is_nameless(name: &Name) -> bool
-    ensures { result ≡ is_reserved name.now }
-{
-    matches!(name.bytes(), [b'_', ..])
-}
-
 // Whether a path is a child of another that a wildcard leads to.
 fn is_child(at: &Path, path: &Path) -> bool
     ensures { Decides result (IsChild at.now path.now) }
 {
     match path.names().split_last() {
         None => false,
-        Some((name, front)) => front == at.names() && !is_nameless(name),
+        Some((name, front)) => front == at.names() && !name.is_reserved(),
     }
 }
 

@@ -1,5 +1,5 @@
 //! Whether calls lead from a place back to it.
-ghost use Rattle.std.specs.Prelude.{◌≡◌, ◌<◌, IfOk, OnOk, length};
+ghost use Rattle.std.specs.Prelude.{◌<◌, IfOk, OnOk, length};
 ghost use Rattle.std.specs.Bool.{Decides};
 ghost use Rattle.pf_calls.specs.Graph.{OnCycle};
 ghost use Rattle.pf_calls.specs.Numbered.{IsInside, numbered};

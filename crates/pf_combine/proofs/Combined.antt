@@ -1,5 +1,5 @@
 -- The combinations of lists, member by member.
-use Rattle.std.proofs.Common.{◌≡◌, ℕ, zero, suc, ◌+◌, ◌<◌, ◌≤◌, Bool, true, false, cond, ◌&&◌, ◌||◌, if◌then◌else◌, List, [], ◌∷◌, ◌++◌, length, map, filter, take, get_or, Option, Some, None, refl, sym, ap, ◌∙◌, arith}
+use Rattle.std.proofs.Common.{◌≡◌, ℕ, zero, suc, ◌+◌, ◌<◌, Bool, true, false, cond, ◌&&◌, ◌||◌, if◌then◌else◌, List, [], ◌∷◌, ◌++◌, length, map, filter, take, get_or, Option, Some, None, refl, sym, ap, ◌∙◌}
 use Rattle.std.specs.List.{filter_map, cons_option, flat_map, list_all, list_any, slice_get}
 use Rattle.std.specs.Option.{option_or, option_to_list}
 use Rattle.std.proofs.lemmas.Bool.{or_left, or_right}
@@ -184,12 +184,6 @@ more_members give xs i x low is =
 pub added_within : {A : Type 0} (room : ℕ) (first so_far more found new : List A) → found ≡ take room (first ++ so_far) → new ≡ take room (found ++ more) → new ≡ take room (first ++ (so_far ++ more))
 added_within room first so_far more found new are adds =
     adds ∙ ap (λ t. take room (t ++ more)) are ∙ take_on room (first ++ so_far) more ∙ ap (take room) (append_assoc first so_far more)
-
-pub full_take : {A : Type 0} (room : ℕ) (xs ys : List A) → length xs ≤ room → room ≤ length xs → xs ≡ take room (xs ++ ys)
-full_take zero [] ys few many = refl
-full_take zero (x ∷ xs) ys few many = absurd (omega arith)
-full_take (suc room) [] ys few many = absurd (omega arith)
-full_take (suc room) (x ∷ xs) ys few many = ap (λ t. x ∷ t) (full_take room xs ys (omega arith) (omega arith))
 
 -- ---- families that the statement names as a whole (not yet checked)
 

@@ -1,5 +1,5 @@
 //! `antispoof` (pf.conf(5), "antispoof").
-ghost use Rattle.std.specs.Prelude.{◌≡◌, ◌≤◌, ◌++◌, ◌∷◌, [], length, map, take, false, true, IfOk, OnOk, if◌then◌else◌};
+ghost use Rattle.std.specs.Prelude.{◌≡◌, ◌≤◌, ◌++◌, [], length, map, take, false, true, IfOk, OnOk, if◌then◌else◌};
 ghost use Rattle.pf_host.specs.Queries.{in_group, is_meant, own_addresses};
 ghost use Rattle.pf_combine.specs.Antispoof as says;
 ghost use Rattle.pf_combine.specs.Antispoof.{from_prefix, of_written};

@@ -11,6 +11,3 @@ pub mod member;
 pub use antispoof::antispoof_criteria;
 pub use combine::combinations;
 pub use member::Member;
-
-#[cfg(test)]
-mod tests;

@@ -118,10 +118,6 @@ all_given_length rules weights (d ∷ ds) = all_given_length rules (given_to_fir
 abbrev pub second_sum : List (Rule × ℕ) → ℕ
 second_sum items = sum (map (λ item. item.1) items)
 
-pub all_given_sum : (rules : List Rule) (weights : List ℕ) (ds : List (Rule × ℕ)) → sum (fold (given_to_first rules) weights ds) ≤ sum weights + second_sum ds
-all_given_sum rules weights [] = omega arith
-all_given_sum rules weights (d ∷ ds) = omega (arith, all_given_sum rules (given_to_first rules weights d) ds, given_sum rules weights d, sum_cons d.1 (map (λ item. item.1) ds))
-
 -- of rules by places with weights: the weights of those that pass a test, and those that pass it
 abbrev pub own_of : (ℕ × Rule → Bool) → List ((ℕ × Rule) × ℕ) → List ℕ
 own_of dropped items = map (λ item. item.1) (filter (λ item. not (dropped item.0)) items)

@@ -1,6 +1,6 @@
 //! Where a rule stands on one axis: of rules that cover one another the wider has neither the larger low end nor the
 //! larger depth, so most pairs of a block need no comparison.
-ghost use Rattle.std.specs.Prelude.{◌≡◌, ◌+◌, ◌*◌, ◌≤◌, ◌<◌, ◌^◌};
+ghost use Rattle.std.specs.Prelude.{◌≡◌, ◌+◌, ◌*◌, ◌<◌, ◌^◌};
 ghost use Rattle.pf_cover.specs.Corner.{EndsUpTo, address_ends, beside, byte_ends, corner_at, direction_ends, ends_at, exactly, family_ends, flags_ends, from_top, icmp_ends, interface_ends, mark_of, nowhere, numbers_ends, others_ends, set_ends, stretch_ends, tag_ends, test_ends};
 
 use pf_addr::Stretch;
@@ -78,7 +78,8 @@ pub(crate) fn ends_at(axis: Axis, criteria: &Criteria) -> Ends
     }
 }
 
-// The criteria that only their equals cover, one beside the other.
+// The criteria that only their equals cover, one beside the other. Each base is above the ends that it is for, and all
+// of them together are below 2^116.
 fn others_ends(criteria: &Criteria) -> Ends
     ensures { result ≡ others_ends criteria.now }
 {

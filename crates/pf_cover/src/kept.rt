@@ -1,5 +1,5 @@
 //! The rules of a block that are kept, and their weights.
-ghost use Rattle.std.specs.Prelude.{◌≡◌, ◌+◌, ◌<◌, ◌^◌, ◌++◌, [], ◌∷◌, ℕ, length, sum, IfOk, IsTrue, OnOk, slice_index_or, if◌then◌else◌};
+ghost use Rattle.std.specs.Prelude.{◌≡◌, ◌+◌, ◌<◌, ◌^◌, ◌++◌, [], ◌∷◌, length, sum, IfOk, IsTrue, OnOk, slice_index_or, if◌then◌else◌};
 ghost use Rattle.pf_cover.specs.Search.{HoldsCorners, dropped_of};
 ghost use Rattle.pf_cover.specs.Kept.{given_to_first, is_dropped, kept_places, kept_rules, kept_weights, own_weights};
 
@@ -8,9 +8,9 @@ use pf_base::{List, NoMemory};
 use pf_rule::Rule;
 use std::alloc::Global;
 
-/// The places, from 0 and ascending, of the rules of one block that are kept: those that no other rule of the block
-/// covers, and of rules that cover each other the first (pf.conf(5), "set ruleset-optimization": duplicate rules and rules
-/// that are a subset of another rule are removed).
+/// The places, from 0 and ascending, of the rules of one block that no other of them drops (pf.conf(5), "set
+/// ruleset-optimization": duplicate rules and rules that are a subset of another rule are removed). A rule drops one that
+/// it covers, unless that covers it as well and stands before it.
 pub fn keep(alloc: Global, rules: &[Rule]) -> Result<List<u32>, NoMemory>
     requires { length rules.now < 2 ^ 32 }
     ensures { IfOk result (λ places. places ≡ kept_places rules.now) }
@@ -33,7 +33,7 @@ fn push_unless(places: &mut List<u32>, dropped: bool, place: u32) -> Result<(), 
     places.push(place)
 }
 
-// Whether the rule at this place is dropped, by these flags.
+// Whether the rule at this place is dropped, by these flags. Rules and rule are those of its clauses.
 fn is_dropped(flags: &[bool], rules: &[Rule], place: usize, rule: &Rule) -> bool
     requires flags { flags.now ≡ dropped_of rules.now }
     requires at { place < length rules.now }

@@ -1,7 +1,8 @@
 //! Which rules of a block are covered by others of it, so that they can go (pf.conf(5), "set ruleset-optimization").
-//! It stands on the rules of pf_rule and compares their criteria one by one, and only those of rules whose stretches of
-//! addresses or ports lie inside one another. The layer above drops what isn't kept, and uses the laws that a covering
-//! rule matches all that the covered one does, and that the kept rules of a block match together what all of them match.
+//! It stands on the rules of pf_rule and compares the criteria of two rules one by one. Which two, it finds by how far they
+//! reach on one axis: that of source, target, ports, owners or all other criteria on which the rules of the block differ
+//! most. The layer above drops what isn't kept, and uses the laws that a covering rule matches all that the covered one
+//! does, and that the kept rules of a block match together what all of them match.
 #![tactic(auto)]
 
 mod corner;
@@ -17,6 +18,3 @@ pub use laws::{
     covering_rules_match_more, kept_rules_are_of_the_block, kept_rules_match_together,
     weights_go_to_kept_rules,
 };
-
-#[cfg(test)]
-mod tests;

@@ -1,7 +1,7 @@
 //! Which rules of a block are dropped, and which rule covers one first, found over the corners of rules.
-ghost use Rattle.std.specs.Prelude.{◌≡◌, ◌⊎◌, ◌+◌, ◌≤◌, ◌<◌, ℕ, true, length, map, IfOk, slice_index_or};
+ghost use Rattle.std.specs.Prelude.{◌≡◌, ◌⊎◌, ◌≤◌, ◌<◌, ℕ, true, length, map, IfOk, slice_index_or};
 ghost use Rattle.std.specs.List.{position_or_len};
-ghost use Rattle.std.specs.List.Sorted.{IsNonDecreasingBy, IsPermutation};
+ghost use Rattle.std.specs.List.Sorted.{IsNonDecreasingBy};
 ghost use Rattle.pf_cover.specs.Corner.{corner_at as corner_of};
 ghost use Rattle.pf_cover.specs.Kept.{drops, is_dropped, placed};
 ghost use Rattle.pf_cover.specs.Search.{AreCorners, AreDeeper, AreJumps, HoldsCorners, corner_drops, covering, dropped_of};

@@ -69,11 +69,6 @@ refused tokens body BadFlags is none =
     let b : false ≡ true = ap is_early is ∙ outside_is_early (first_left_out (symbols tokens)) in absurd (cc)
 refused tokens body NoMemory is none = tt
 
--- tokens declare one thing
-pub one_decl : (tokens : List Token) (body : Bool) (decl other : Decl) → IsDecl tokens body decl → IsDecl tokens body other → decl ≡ other
-one_decl tokens body decl other is same =
-    decl_only tokens body decl other [] ((declaration body (place_of tokens)).exact.found (symbols tokens) decl [] is) same
-
 by_reading : (tokens : List Token) (body : Bool) (o : Option (Decl × Symbols)) → (declaration body (place_of tokens)).reads (symbols tokens) ≡ o → DeclaresOrNot tokens body
 by_reading tokens body None said = refused_with (outside_fault (symbols tokens)) (record { none = none_outside tokens body said; refused = refl })
 by_reading tokens body (Some (decl, [])) said = declares decl (decl_found tokens body decl [] said refl)

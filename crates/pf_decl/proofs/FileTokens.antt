@@ -102,10 +102,6 @@ cut_file false opening = refl
 quote_good : (byte : ℕ) → class_of byte ≡ Quote → is_string_byte byte ≡ true
 quote_good byte is = good_byte byte (ap is_good_class is)
 
-abbrev lexeme_or : Lexeme → Option Lexeme → Lexeme
-lexeme_or other None = other
-lexeme_or other (Some lexeme) = lexeme
-
 abbrev OfLexeme : Option Lexeme → Type 0
 OfLexeme None = Unit {0}
 OfLexeme (Some lexeme) = is_file_lexeme lexeme ≡ true

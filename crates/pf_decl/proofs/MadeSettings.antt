@@ -63,10 +63,6 @@ given_each P offered all start value rest file (given is) = record { holds = all
 pub says_given : {A : Type 0} (P : A → Type 0) (offered : Option A) → ((value : A) → offered ≡ Some value → P value) → Says P (Given offered)
 says_given P offered all = record { each = given_each P offered all }
 
-some_other : {A : Type 0} → A → Option A → A
-some_other other None = other
-some_other other (Some value) = value
-
 abbrev HoldsOf : {A : Type 0} → (A → Type 0) → Option A → Type 0
 HoldsOf P None = Unit {0}
 HoldsOf P (Some value) = P value
@@ -116,9 +112,6 @@ repeated_each P ends step each most before holds start value rest file (further 
 -- a list of items each of which has it
 abbrev says_list : {A : Type 0} → (A → Type 0) → Grammar A → Type 0
 says_list P item = Says (All P) (list_of item).derives
-
-all_none : {A : Type 0} (P : A → Type 0) → All P []
-all_none P = λ k d below. absurd (omega arith)
 
 all_one : {A : Type 0} (P : A → Type 0) (item : A) → P item → All P (item ∷ [])
 all_one P item holds = λ k d below. let first : k ≡ 0 = omega arith in rw first holds

@@ -11,7 +11,7 @@ use Rattle.pf_base.specs.Decimal.{digits_after, decimal_of}
 use Rattle.pf_base.specs.Text.{is_nothing}
 use Rattle.pf_parts.specs.NameText as names
 use Rattle.pf_syntax.specs.Symbols.{bare, quoted}
-use Rattle.pf_syntax.specs.Words.{is_name, is_name_byte}
+use Rattle.pf_syntax.specs.Words.{is_name, is_quotable}
 use Rattle.pf_token.specs.declared.byte.ByteClass.{ByteClass}
 use Rattle.pf_token.specs.declared.byte.ByteClass.TheVariants.{Blank, Newline, Sign, Quote, Hash, Dollar, Plain, Bad}
 use Rattle.pf_token.specs.Bytes.{class_of, is_word_byte, is_known}
@@ -103,13 +103,13 @@ bare_spelled (first ∷ rest) named is =
     (weaker names.is_word_byte is_word_byte word_byte (first ∷ rest) q.0)
 
 -- a name that a file can have is a string
-string_byte : (byte : ℕ) → is_name_byte byte ≡ true → is_string_byte byte ≡ true → is_plain_in_string byte ≡ true
+string_byte : (byte : ℕ) → is_quotable byte ≡ true → is_string_byte byte ≡ true → is_plain_in_string byte ≡ true
 string_byte byte named made =
     let p = and_parts (not (byte == 34)) (not (byte == 92)) named in
     let q = and_parts (is_known (class_of byte)) (not (byte == 10)) made in
     and_from (not (byte == 34)) (not (byte == 92) && not (byte == 10)) p.0 (and_from (not (byte == 92)) (not (byte == 10)) p.1 q.1)
 
-string_bytes : (name : List ℕ) → list_all is_name_byte name ≡ true → list_all is_string_byte name ≡ true → list_all is_plain_in_string name ≡ true
+string_bytes : (name : List ℕ) → list_all is_quotable name ≡ true → list_all is_string_byte name ≡ true → list_all is_plain_in_string name ≡ true
 string_bytes [] named made = refl
 string_bytes (byte ∷ name) named made =
     let p = and_parts _ _ named in

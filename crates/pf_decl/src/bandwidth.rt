@@ -1,5 +1,5 @@
 //! Rates and bursts of queues (pf.conf(5), GRAMMAR, `bandwidth-spec`, and QUEUEING).
-ghost use Rattle.std.specs.Prelude.{◌≡◌, ◌≤◌, ◌*◌, IfSome};
+ghost use Rattle.std.specs.Prelude.{◌≡◌, ◌*◌};
 ghost use Rattle.std.specs.Option.{option_map};
 ghost use Rattle.pf_base.specs.Decimal.{decimal_of};
 ghost use Rattle.pf_syntax.specs.Taking.{Takes};

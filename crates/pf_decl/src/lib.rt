@@ -21,6 +21,3 @@ pub use decl::{parse_decl, tokens_declare_or_are_refused, tokens_have_one_declar
 pub use form::{Bandwidth, Burst, Decl, OptionLine, Queue, SetForm, Setting, TableForm, TableItem};
 pub use read_back::shown_lines_read_back;
 pub use words::tables_have_words;
-
-#[cfg(test)]
-mod tests;

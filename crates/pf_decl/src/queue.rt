@@ -104,7 +104,7 @@ fn take_queue_behind(cursor: &mut Cursor, word: QueueWord, before: Queue) -> Res
             if queue.qlimit.is_some() {
                 return Err(Stop::Outside);
             }
-            let packets = cursor.take_number(1, 65535)?;
+            let packets = cursor.take_number(1, 65_535)?;
             queue.qlimit = Some(packets);
         }
     }

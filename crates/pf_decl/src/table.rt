@@ -128,8 +128,7 @@ fn take_file(cursor: &mut Cursor) -> Result<Text, Stop>
     ensures { Takes says.file cursor.old result cursor.new }
 {
     let name = cursor.take_name()?;
-    let mut file = List::new(cursor.alloc());
-    file.append_copy(name.bytes())?;
+    let file = List::copy_of(cursor.alloc(), name.bytes())?;
     Ok(file)
 }
 

@@ -1,5 +1,5 @@
 -- What is laid on what was gathered, piece by piece.
-use Rattle.std.proofs.Common.{◌≡◌, ℕ, suc, ◌+◌, ◌<◌, ◌≤◌, ◌==◌, ◌↔◌, Bool, true, false, cond, drop, eq-eqb, List, [], ◌∷◌, ◌++◌, length, get_or, take, map, Option, Some, None, Result, Ok, Err, OnOk, refl, sym, ap, ◌∙◌, subst, append_assoc, append-nil, add-zero, arith}
+use Rattle.std.proofs.Common.{◌≡◌, ℕ, suc, ◌+◌, ◌<◌, ◌↔◌, Bool, true, false, cond, List, [], ◌∷◌, ◌++◌, length, get_or, take, map, Option, Some, None, Result, Ok, Err, OnOk, refl, sym, ap, ◌∙◌, subst, append_assoc, append-nil, add-zero, arith}
 use Rattle.std.specs.List.{AllZip, flat_map, list_any}
 use Rattle.std.proofs.lemmas.List.{map-append, take_more}
 use Rattle.std.proofs.lemmas.List.Concat.{flat_map-append}
@@ -19,14 +19,11 @@ use Rattle.pf_lexer.specs.declared.reads.ReadFile.{ReadFile}
 use Rattle.pf_table.specs.declared.entry.Entry.{Entry}
 use Rattle.pf_entries.specs.FileWords.{Bit, EntryMeans, PlacedBit, Signed, TextMeans, a_bad_byte, a_word, bits_at, bits_from, is_bad, no_prefix, too_long, unsigned, visible, words_in}
 use Rattle.pf_fault.specs.Order.{decided, fault_at, first_of}
-use Rattle.pf_entries.specs.Tables.{Gathers, Means, PieceMeans, Reading, Written, bit_in, entry_of, faults_in, faults_of, file_in, in_file, item_at, items_at, laid, line_at, placed_at, placed_in, placed_of, word_at}
+use Rattle.pf_entries.specs.Tables.{Gathers, Means, PieceMeans, Reading, Written, bit_in, faults_in, faults_of, file_in, in_file, item_at, items_at, laid, line_at, placed_at, placed_in, placed_of, word_at}
 use Rattle.pf_fault.specs.declared.fault.Fault.{Fault}
 use Rattle.pf_entries.specs.declared.gathered.Gathered.{Gathered}
 use Rattle.pf_entries.specs.declared.gathered.Placed.{Placed}
 use Rattle.pf_fault.specs.OrderLaws.{decided-append, first-assoc, first-none}
-
-pub laid_nothing : (g : Gathered) → g ≡ laid g []
-laid_nothing g = λ i. record { placed = sym (append-nil g.placed) i; fault = sym (first-none g.fault) i }
 
 placed-append : (rs ss : List Reading) → placed_in (rs ++ ss) ≡ placed_in rs ++ placed_in ss
 placed-append rs ss = flat_map-append (λ (reading : Reading). placed_of reading.place reading.means) rs ss
@@ -46,9 +43,6 @@ zip_append R [] [] us vs all more = more
 zip_append R [] (y ∷ ys) us vs all more = absurd all
 zip_append R (x ∷ xs) [] us vs all more = absurd all
 zip_append R (x ∷ xs) (y ∷ ys) us vs all more = (all.0, zip_append R xs ys us vs all.1 more)
-
-pub gathers_none : (facts : HostFacts) (g : Gathered) → Gathers facts [] g g
-gathers_none facts g = record { readings = []; each = tt; are = laid_nothing g }
 
 pub gathers_more : (facts : HostFacts) (ws vs : List Written) (a b c : Gathered) → Gathers facts ws a b → Gathers facts vs b c → Gathers facts (ws ++ vs) a c
 gathers_more facts ws vs a b c h k = record {
@@ -128,23 +122,6 @@ lines_step facts file seen line number a b c counted h k =
     ∙ ap (λ (n : ℕ). lines_in file seen ++ line_at (place n) line) counted in
     subst (λ (ws : List Written). Gathers facts ws a c) (sym written) (gathers_more facts (lines_in file seen) (line_at (place number) line) a b c h k)
 
--- entries of prefixes, one more
-pub entries_step : (old before after : Gathered) (place : Place) (negated : Bool) (front : List Prefix) (prefix : Prefix)
-    → before ≡ record old { placed = old.placed ++ map (placed_at place) (map (entry_of negated) front) }
-    → after ≡ record before { placed = before.placed ++ placed_at place (entry_of negated prefix) ∷ [] }
-    → after ≡ record old { placed = old.placed ++ map (placed_at place) (map (entry_of negated) (front ++ prefix ∷ [])) }
-entries_step old before after place negated front prefix h k =
-    let one : Placed = placed_at place (entry_of negated prefix) in
-    let so_far : List Placed = map (placed_at place) (map (entry_of negated) front) in
-    let both : map (placed_at place) (map (entry_of negated) (front ++ prefix ∷ [])) ≡ so_far ++ one ∷ [] =
-    ap (map (placed_at place)) (map-append (entry_of negated) front (prefix ∷ [])) ∙ map-append (placed_at place) (map (entry_of negated) front) (entry_of negated prefix ∷ []) in
-    let joined : (old.placed ++ so_far) ++ one ∷ [] ≡ old.placed ++ map (placed_at place) (map (entry_of negated) (front ++ prefix ∷ [])) =
-    append_assoc old.placed so_far (one ∷ []) ∙ ap (λ (more : List Placed). old.placed ++ more) (sym both) in
-    k ∙ ap (λ (g : Gathered). record g { placed = g.placed ++ one ∷ [] }) h ∙ (λ i. record { placed = joined i; fault = old.fault })
-
-pub entries_none : (old : Gathered) (place : Place) (negated : Bool) → old ≡ record old { placed = old.placed ++ map (placed_at place) (map (entry_of negated) []) }
-entries_none old place negated = λ i. record { placed = sym (append-nil old.placed) i; fault = old.fault }
-
 -- a word of a file
 
 -- a word that is no prefix
@@ -157,22 +134,6 @@ word_fails negated word texts.NotAnAddress only long none = no_prefix (none.0 re
 -- what is meant by the text behind its sign is meant by the word
 pub by_sign : (text : List ℕ) (negated : Bool) (word : List ℕ) (answer : Result (List Entry) FaultKind) → unsigned text ≡ record { negated = negated; word = word } → TextMeans negated word answer → EntryMeans text answer
 by_sign text negated word answer same means = subst (λ (s : Signed). TextMeans s.negated s.word answer) (sym same) means
-
--- the sign of a text
-pub signed_text : (text : List ℕ) → 1 < length text → get_or text 0 0 ≡ 33 → unsigned text ≡ record { negated = true; word = drop 1 text }
-signed_text [] long first = absurd (omega arith)
-signed_text (byte ∷ []) long first = absurd (omega arith)
-signed_text (byte ∷ next ∷ bytes) long first = ap (λ (b : Bool). cond b (record { negated = true; word = next ∷ bytes }) (record { negated = false; word = byte ∷ next ∷ bytes })) (eq-eqb byte 33 first)
-
-pub short_text : (text : List ℕ) → length text ≤ 1 → unsigned text ≡ record { negated = false; word = text }
-short_text [] short = refl
-short_text (byte ∷ []) short = refl
-short_text (byte ∷ next ∷ bytes) short = absurd (omega arith)
-
-pub other_text : (text : List ℕ) → (get_or text 0 0 == 33) ≡ false → unsigned text ≡ record { negated = false; word = text }
-other_text [] other = refl
-other_text (byte ∷ []) other = refl
-other_text (byte ∷ next ∷ bytes) other = ap (λ (b : Bool). cond b (record { negated = true; word = next ∷ bytes }) (record { negated = false; word = byte ∷ next ∷ bytes })) other
 
 -- the parts of a line
 

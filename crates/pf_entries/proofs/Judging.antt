@@ -19,9 +19,9 @@ use Rattle.pf_base.specs.Text.{lines_of}
 use Rattle.pf_entries.specs.FileWords.{Bit, PlacedBit, bits_at, bits_from, bits_in, visible}
 use Rattle.pf_fault.specs.Stops.{StopWithin}
 use Rattle.pf_fault.specs.Order.{decided, fault_at, first_of, rank}
-use Rattle.pf_fault.specs.Stops.{UnlessShort, unread_in}
-use Rattle.pf_entries.specs.TableFiles.{Contents, IsRead, contents_of}
-use Rattle.pf_entries.specs.Tables.{ComesOf, Gathers, IsJudged, MayCome, Means, Reading, TableComes, Written, answer_with, bit_in, conflict_behind, conflict_fault, conflict_in, contradicts, declared_with, distinct, faults_in, faults_of, file_in, is_declared, item_at, items_at, items_of, laid, name_fault, nothing_gathered, placed_at, placed_in, placed_of, table_fault, where_so, written_in}
+use Rattle.pf_fault.specs.Stops.{UnlessShort}
+use Rattle.pf_entries.specs.TableFiles.{Contents, IsRead}
+use Rattle.pf_entries.specs.Tables.{ComesOf, Gathers, IsJudged, MayCome, Means, Reading, Written, answer_with, bit_in, conflict_behind, conflict_fault, conflict_in, contradicts, declared_with, distinct, faults_in, faults_of, file_in, is_declared, item_at, items_at, items_of, laid, name_fault, nothing_gathered, placed_at, placed_in, placed_of, table_fault, where_so, written_in}
 use Rattle.pf_fault.specs.declared.fault.Fault.{Fault}
 use Rattle.pf_fault.specs.declared.fault.Stop.{Stop}
 use Rattle.pf_fault.specs.declared.fault.Stop.TheVariants as stops
@@ -39,12 +39,6 @@ faulty false one other decl empty = refl
 some_fault : (before : Option Fault) (fault : Fault) (decl empty : TableDecl) → answer_with (first_of before (Some fault)) decl ≡ answer_with (first_of before (Some fault)) empty
 some_fault None fault decl empty = refl
 some_fault (Some one) fault decl empty = faulty (nat_lt (rank fault.kind) (rank one.kind)) fault one decl empty
-
-pub unless_short : {A : Type 0} (Means : Result A Stop → Type 0) (answer : Result A Stop) → Means answer → UnlessShort Means answer
-unless_short Means (Ok x) h = h
-unless_short Means (Err (stops.Fault fault)) h = h
-unless_short Means (Err (stops.Unread name)) h = h
-unless_short Means (Err stops.NoMemory) h = tt
 
 module _ (facts : HostFacts) (tables : List TableDecl) (form : TableForm) (place : Place) (files : List ReadFile) (all : Gathered) (read : Gathers facts (written_in form place files) nothing_gathered all) (before : Option Fault)
     (first : before ≡ first_of all.fault (name_fault tables form place)) where
@@ -72,11 +66,6 @@ module _ (facts : HostFacts) (tables : List TableDecl) (form : TableForm) (place
         ∙ ap (λ (f : Option Fault). answer_with f (declared_with form (distinct all.placed))) (first ∙ sym (first-none (first_of all.fault (name_fault tables form place))))
         ∙ ap (λ (f : Option Place). answer_with (first_of (first_of all.fault (name_fault tables form place)) (conflict_fault f)) (declared_with form (distinct all.placed))) (sym is);
   }
-
--- no read failed in it
-pub none_unread : (fault : Option Fault) (decl : TableDecl) → unread_in (answer_with fault decl) ≡ []
-none_unread None decl = refl
-none_unread (Some fault) decl = refl
 
 -- places
 
@@ -214,19 +203,7 @@ failed_comes disk facts tables form place reads later (stops.Fault fault) read =
 failed_comes disk facts tables form place reads later (stops.Unread name) read = read
 failed_comes disk facts tables form place reads later stops.NoMemory read = tt
 
-read_comes : (disk : Disk) (facts : HostFacts) (tables : List TableDecl) (form : TableForm) (place : Place) (reads later : ReadSoFar) (files : List ReadFile) (answer : Result TableDecl Stop)
-    → contents_of disk form.files reads ≡ record { files = Ok files; later = later } → IsJudged facts tables form place files answer → TableComes disk facts tables form place reads answer later
-read_comes disk facts tables form place reads later files answer read judged = record {
-  comes = subst (λ (c : Contents). ComesOf facts tables form place c.files answer) (sym read) judged;
-  read = ap (λ (c : Contents). c.later) (sym read);
 }
-
-pub judged_comes : (disk : Disk) (facts : HostFacts) (tables : List TableDecl) (form : TableForm) (place : Place) (reads later : ReadSoFar) (files : List ReadFile) (answer : Result TableDecl Stop)
-    → IsRead disk form.files reads (Ok files) later → UnlessShort (IsJudged facts tables form place files) answer → unread_in answer ≡ [] → MayCome disk facts tables form place reads answer later
-judged_comes disk facts tables form place reads later files (Ok decl) read judged none = read_comes disk facts tables form place reads later files (Ok decl) read judged
-judged_comes disk facts tables form place reads later files (Err (stops.Fault fault)) read judged none = read_comes disk facts tables form place reads later files (Err (stops.Fault fault)) read judged
-judged_comes disk facts tables form place reads later files (Err (stops.Unread name)) read judged none = absurd cc
-judged_comes disk facts tables form place reads later files (Err stops.NoMemory) read judged none = tt
 
 -- a file that had a number has it later
 pub still_in : (old new : List (List ℕ)) (file : ℕ) → GoesOn old new → file < length old → file < length new

@@ -7,4 +7,3 @@ pub mod Settling
 pub mod Something
 pub mod Staying
 pub mod TableContents
-pub mod TextLines

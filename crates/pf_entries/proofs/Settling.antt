@@ -1,5 +1,5 @@
 -- Which entries of a declaration count, one after the other.
-use Rattle.std.proofs.Common.{◌≡◌, ℕ, ◌+◌, ◌<◌, Bool, true, false, cond, not, List, [], ◌∷◌, ◌++◌, length, take, drop, drop-cons, add-one, suc, get_or, Option, Some, None, refl, sym, ap, ◌∙◌, subst, append_assoc, append-nil}
+use Rattle.std.proofs.Common.{◌≡◌, ℕ, ◌+◌, ◌<◌, Bool, true, false, cond, not, List, [], ◌∷◌, ◌++◌, length, take, drop, drop-cons, add-one, suc, get_or, Option, Some, None, refl, sym, ap, ◌∙◌, subst, append_assoc}
 use mathlib.Core.Bool.{beq}
 use Rattle.std.specs.Prelude.{◌&&◌, ◌||◌, is_some}
 use Rattle.std.specs.List.{list_any}
@@ -158,10 +158,3 @@ module _ (placed earlier rest : List Placed) (one : Placed) (seen : Signs) (entr
   pub one_stops : (sign : Bool) → finite.get seen one.entry.prefix ≡ Some sign → same_sign sign one.entry.negated ≡ false → conflict_in placed ≡ Some one.place
   one_stops sign known differ =
       so.conflict ∙ ap (λ (b : Bool). cond b (Some one.place) (conflict_behind (earlier ++ one ∷ []) rest)) (so.knows.other one.entry ∙ ap (λ (f : Option Bool). differs f one.entry.negated) known ∙ ap not differ)
-
--- all were met
-pub all_settled : (placed earlier : List Placed) (seen : Signs) (entries : List Entry) → SettledSoFar placed earlier [] seen entries → entries ≡ distinct placed
-all_settled placed earlier seen entries so = sym (so.entries ∙ append-nil entries)
-
-pub none_conflicts : (placed earlier : List Placed) (seen : Signs) (entries : List Entry) → SettledSoFar placed earlier [] seen entries → conflict_in placed ≡ None
-none_conflicts placed earlier seen entries so = so.conflict

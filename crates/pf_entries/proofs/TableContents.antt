@@ -97,11 +97,6 @@ one_read disk all start files name rest reads file so look = record {
     by_given disk gone name rest reads file look false same h =
         ap (λ (l : Look). (going_on reads name l (contents_of (without (Some gone) disk) rest)).files) look ∙ ap (in_front file) h
 
--- all were read
-pub all_read : (disk : Disk) (all : List (List ℕ)) (start : ReadSoFar) (files : List ReadFile) (reads : ReadSoFar) → ReadSo disk all start files [] reads
-    → contents_of disk all start ≡ record { files = Ok files; later = reads }
-all_read disk all start files reads so = so.on ∙ (λ i. record { files = Ok (append-nil files i); later = reads })
-
 -- one was too large
 pub large_read : (disk : Disk) (all : List (List ℕ)) (start : ReadSoFar) (files : List ReadFile) (name : List ℕ) (rest : List (List ℕ)) (reads : ReadSoFar) (number : ℕ)
     → ReadSo disk all start files (name ∷ rest) reads → look_up disk reads name ≡ too_large number

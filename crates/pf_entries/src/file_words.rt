@@ -1,18 +1,17 @@
 //! The entries of a table's file (pf.conf(5), TABLES, file).
-ghost use Rattle.std.specs.Prelude.{◌≡◌, ◌<◌, ◌-◌, ◌^◌, ◌++◌, ◌∷◌, [], length, map, OnOk, IfSome, IfNone, not, position};
+ghost use Rattle.std.specs.Prelude.{◌≡◌, ◌<◌, ◌-◌, ◌^◌, ◌∷◌, [], length, map, OnOk, IfSome, IfNone, not, position};
 ghost use Rattle.std.specs.List.{list_any};
-ghost use Rattle.pf_base.specs.Text.{lines_of};
 ghost use Rattle.pf_entries.specs.FileWords as says;
-ghost use Rattle.pf_entries.specs.FileWords.{EntryMeans, bits_at, bits_from, bits_of, unsigned, visible, words_in};
+ghost use Rattle.pf_entries.specs.FileWords.{unsigned, visible, words_in};
 ghost use Rattle.pf_entries.specs.Tables.{Gathers, file_in, line_at, word_at};
 ghost use Rattle.pf_host.specs.Facts.{HostFacts};
-ghost use Rattle.pf_word.specs.Hosts.{mask_fault};
 
 use crate::gathered::{Gathered, add_entry, add_fault};
-use pf_addr::{AddrFault, parse_prefix};
-use pf_base::text::split_line;
-use pf_base::{FaultKind, NoMemory, Place, named_in_fault};
+use pf_addr::parse_prefix;
+use pf_base::text::next_line;
+use pf_base::{FaultKind, NoMemory, Place};
 use pf_lexer::ReadFile;
+use pf_word::mask_fault;
 
 // A space, a tab or a carriage return.
 fn is_gap(byte: u8) -> bool
@@ -78,24 +77,6 @@ fn next_word(text: &[u8]) -> Option<(&[u8], &[u8])>
     }
 }
 
-// The first line, and the text behind it; None where no line is left.
-fn next_line(text: &[u8]) -> Option<(&[u8], &[u8])>
-    ensures line { IfSome result (λ cut. lines_of text.now ≡ cut.0.now ∷ lines_of cut.1.now) }
-    ensures shorter { IfSome result (λ cut. length cut.1.now < length text.now) }
-    ensures none { IfNone result (lines_of text.now ≡ []) }
-{
-    match split_line(text) {
-        Some((line, behind)) => Some((line, behind)),
-        None => {
-            if text.is_empty() {
-                None
-            } else {
-                Some((text, &[]))
-            }
-        }
-    }
-}
-
 // Whether a `!` stands right before something, and what stands behind it.
 fn without_sign(text: &[u8]) -> (bool, &[u8])
     ensures value { unsigned text.now ≡ record { negated = result.0; word = result.1.now } }
@@ -108,17 +89,6 @@ fn without_sign(text: &[u8]) -> (bool, &[u8])
     }
 }
 
-// The fault of a word that is no entry.
-fn fault_of(word: &[u8], fault: AddrFault) -> FaultKind
-    requires { 0 < length word.now }
-    ensures { result ≡ mask_fault word.now fault }
-{
-    match fault {
-        AddrFault::MaskTooLong(bits) => FaultKind::MaskTooLong(bits),
-        AddrFault::NotAnAddress => FaultKind::NotAnAddress(named_in_fault(word)),
-    }
-}
-
 // Adds what a word means.
 fn add_word(gathered: &mut Gathered, text: &[u8], place: Place) -> Result<(), NoMemory>
     requires { 0 < length text.now }
@@ -128,7 +98,7 @@ fn add_word(gathered: &mut Gathered, text: &[u8], place: Place) -> Result<(), No
     match parse_prefix(word) {
         Ok(prefix) => add_entry(gathered, &prefix, negated, place),
         Err(fault) => {
-            add_fault(gathered, fault_of(word, fault), place);
+            add_fault(gathered, mask_fault(word, fault), place);
             Ok(())
         }
     }

@@ -17,6 +17,3 @@ pub use laws::{
     declarations_without_a_file,
 };
 pub use table::{has_words, read_table};
-
-#[cfg(test)]
-mod tests;

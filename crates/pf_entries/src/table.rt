@@ -1,8 +1,7 @@
 //! Declarations of tables (pf.conf(5), TABLES).
 ghost use Rattle.std.specs.Prelude.{◌≡◌, ℕ, ◌<◌, ◌≤◌, ◌∷◌, [], All, true, length, IfOk, OnOk, Contains, IfErr, List as Items};
-ghost use Rattle.std.specs.List.{flat_map, list_all, list_any};
+ghost use Rattle.std.specs.List.{flat_map, list_all};
 ghost use Rattle.std.specs.Option.{option_copied};
-ghost use Rattle.std.specs.Str.{bytes_eq};
 ghost use Rattle.pf_source.specs.Told.{Told, file_of};
 ghost use Rattle.pf_lexer.specs.Calls.{AsksAndReads};
 ghost use Rattle.pf_host.specs.Facts.{HostFacts};
@@ -226,9 +225,8 @@ fn judge(
 }
 
 /// The table that a declaration at this place makes, behind the tables that its unit has declared (pf.conf(5), TABLES). Its files
-/// are read first, in order; the first that is absent is `Unread`, and the first that is too large is `TooLarge` at its line 0. Then
-/// words and files are judged together: BadByte, NotAnAddress, MaskTooLong and UnknownInterface of its words, TableTwice, TableName,
-/// TableConflict (at the first entry whose prefix an earlier one has with the other sign), braces before files.
+/// are read first, in order: the first that can't be is `Unread`, or `TooLarge` at its line 0. Then words and files are judged
+/// together; `TableConflict` comes at the first entry whose prefix an earlier one has with the other sign, braces before files.
 pub fn read_table<F: Files>(
     alloc: Global,
     files: &mut F,

@@ -14,14 +14,6 @@ use pf_lexer::{ReadFile, Reads, ReadsFault};
 use pf_source::Files;
 use std::alloc::Global;
 
-// A copy of a file's name.
-fn copy_of(alloc: Global, name: &Text) -> Result<Text, NoMemory>
-    ensures { IfOk result (λ copy. copy ≡ name.now) }
-{
-    let bytes = Vec::from_slice(alloc, name.items())?;
-    Ok(List::of(bytes))
-}
-
 // Reads one file. The name is copied first, so that a failed read is told.
 fn read_one<F: Files>(
     alloc: Global,
@@ -39,7 +31,7 @@ fn read_one<F: Files>(
     ensures numbered { IsNumberWithin (length reads.new.names) result }
     ensures asks { Asks (unread_in result) (F.tells files.old) (F.tells files.new) }
 {
-    let asked = copy_of(alloc, name)?;
+    let asked = List::copy_of(alloc, name.items())?;
     match reads.read(alloc, files, name) {
         Ok(file) => Ok(file),
         Err(ReadsFault::Failed) => Err(Stop::Unread(asked)),

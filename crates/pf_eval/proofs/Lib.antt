@@ -4,13 +4,10 @@ pub mod Bounds
 pub mod Skipping
 pub mod Chained
 pub mod Behind
-pub mod Entries
 pub mod Arms
 pub mod Ends
 pub mod Named
 pub mod Answering
 pub mod Deeds
 pub mod Fewer
-pub mod Gathered
-pub mod Telling
 mod Examples

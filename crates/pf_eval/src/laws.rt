@@ -5,6 +5,7 @@ ghost use Rattle.std.specs.List.{slice_get};
 ghost use Rattle.pf_calls.specs.Graph.{IsShallow};
 ghost use Rattle.pf_eval.specs.Answers.{optimised_world, written_world};
 ghost use Rattle.pf_eval.specs.Chain.{IsChain, passed_over, tests_at};
+ghost use Rattle.pf_eval.specs.Rows.{CallsNoMore};
 ghost use Rattle.pf_eval.specs.Rulesets.{AreSound, Rulesets, graph_in};
 ghost use Rattle.pf_eval.specs.Steps.{on_optimised, on_written};
 ghost use Rattle.pf_eval.specs.World.{ActsOnce, IsWalk, StandForEachOther, Walker, World, walk_at, walk_within};
@@ -64,6 +65,11 @@ pub fn tests_need_no_bound<W>()
 pub fn rules_up_to_a_skip_are_passed_over()
     ensures { (rules : List FilterRule) (place field : ℕ) (rule : FilterRule) → slice_get rules place ≡ Some rule →
         skip rules place field ≡ place + 1 + passed_over (FailsFirst field) rule (drop (place + 1) rules) }
+{}
+
+/// A law: a tree stays shallow where rulesets and calls are taken away.
+pub fn fewer_calls_stay_shallow()
+    ensures { (less more : Rulesets) (most : ℕ) → CallsNoMore less more → IsShallow (graph_in more) most → IsShallow (graph_in less) most }
 {}
 
 // What the optimised rules of one ruleset do to a packet's walk is what the written ones do.

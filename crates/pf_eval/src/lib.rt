@@ -8,18 +8,13 @@
 mod evaluator;
 mod laws;
 mod longest;
-mod rows;
 mod tables;
 mod walk;
 
 pub use evaluator::eval;
 pub use laws::{
-    optimised_rulesets_stand_for_written_ones, rules_up_to_a_skip_are_passed_over,
-    tests_need_no_bound, walks_need_no_bound,
+    fewer_calls_stay_shallow, optimised_rulesets_stand_for_written_ones,
+    rules_up_to_a_skip_are_passed_over, tests_need_no_bound, walks_need_no_bound,
 };
 pub use pf_calls::{CallFault, CallRow, call_fault};
 pub use pf_optim::Node;
-pub use rows::{call_row, call_rows, fewer_calls_stay_shallow, rows_tell_calls};
-
-#[cfg(test)]
-mod tests;

@@ -1,6 +1,5 @@
 //! Look-ups in lists of entries.
 ghost use Rattle.std.specs.Prelude.{◌≡◌};
-ghost use Rattle.std.specs.Option.{option_copied};
 ghost use Rattle.pf_eval.specs.Longest.{longer};
 ghost use Rattle.pf_table.specs.Table.{member, narrowest};
 

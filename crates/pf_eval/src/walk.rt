@@ -3,7 +3,7 @@ ghost use Rattle.std.specs.Prelude.{◌≡◌, ◌+◌, ◌<◌, ◌++◌, ◌�
 ghost use Rattle.std.specs.FinMap as fin;
 ghost use Rattle.std.specs.Option.{option_copied};
 ghost use Rattle.pf_base.specs.Path.{child_path, is_reserved};
-ghost use Rattle.pf_eval.specs.Rulesets.{named_children};
+ghost use Rattle.pf_eval.specs.Rulesets.{call_of, named_children};
 ghost use Rattle.pf_eval.specs.Steps.{call_at, call_tests, children_tests, children_walk, deed_at, list_tests, on_optimised, rule_tests, tests_left, walk_left};
 ghost use Rattle.pf_eval.specs.World.{anchored, packet_walker};
 ghost use Rattle.pf_optim.specs.Ruleset.{form_of};
@@ -11,12 +11,11 @@ ghost use Rattle.pf_parts.specs.CallTarget.{target_of};
 ghost use Rattle.pf_rule.specs.Walking.{walked_through};
 
 use crate::laws::{optimised_walk_is_written, ruleset_is_sound};
-use crate::rows::call_by;
 use crate::tables::Tables;
 use pf_base::{Ledger, Name, Path, Steps};
 use pf_host::Facts;
 use pf_optim::Node;
-use pf_rule::{Call, Marks, Probe, Rule, Tested, equal_fields_test_alike};
+use pf_rule::{Action, Call, Marks, Probe, Rule, Tested, equal_fields_test_alike};
 use pf_tree::Tree;
 
 /// What is lent to a walk: the tree, and the facts of the host.
@@ -117,6 +116,16 @@ fn take_rule<P: Probe<L>, L: Ledger>(
         }
         Tested::Field(field) => rules.skip(place as u32, field) as usize,
         Tested::Other => place + 1,
+    }
+}
+
+// The call of an anchor rule.
+fn call_by(action: &Action) -> Option<&Call>
+    ensures { option_copied result ≡ call_of action.now }
+{
+    match action {
+        Action::Anchor(call) => Some(call),
+        Action::Pass | Action::Block(_) | Action::Match => None,
     }
 }
 
@@ -243,19 +252,11 @@ fn walk_child<P: Probe<L>, L: Ledger>(
     ensures counted { let trees = site.now.tree.now.payloads in let facts = site.now.facts.now in
         steps.new ≡ steps.old + (if is_reserved name.now then 0 else tests_left trees facts left (at.now ++ name.now ∷ []) (P.walk probe.old)) }
 {
-    if is_nameless(name) {
+    if name.is_reserved() {
         return;
     }
     let Some(child) = at.child(name) else {
         return;
     };
     walk_ruleset(site, &child, left, probe, steps);
-}
-
-// Whether a name is that of an anchor without a name: it begins with `_`.
-#[tactic(auto, unfolding(pf_base::specs::Path::is_reserved))]
-fn is_nameless(name: &Name) -> bool
-    ensures { result ≡ is_reserved name.now }
-{
-    matches!(name.bytes(), [b'_', ..])
 }

@@ -1,5 +1,5 @@
 //! The faults of a statement, each kind by itself.
-ghost use Rattle.std.specs.Prelude.{◌≡◌, ℕ, ◌&&◌, ◌==◌, not};
+ghost use Rattle.std.specs.Prelude.{◌≡◌, ◌&&◌, ◌==◌, not};
 ghost use Rattle.std.specs.List.{list_all, list_any};
 ghost use Rattle.pf_rule.specs.Criteria.{is_tcp_or_udp};
 ghost use Rattle.pf_expand.specs.Faults as says;

@@ -1,5 +1,5 @@
 //! What the words of a statement mean.
-ghost use Rattle.std.specs.Prelude.{◌≡◌, ◌++◌, true, OnOk, IfOk, Some, None, if◌then◌else◌};
+ghost use Rattle.std.specs.Prelude.{◌≡◌, ◌++◌, true, OnOk, IfOk, Some, None};
 ghost use Rattle.std.specs.List.{filter_map};
 ghost use Rattle.pf_word.specs.Hosts.{HostsMean};
 ghost use Rattle.pf_word.specs.Kinds.{icmps, protos};

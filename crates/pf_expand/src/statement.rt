@@ -157,15 +157,9 @@ fn answer(
     }
 }
 
-/// The first `room` rules that a form comes to, or its first fault. There is a rule for each combination of one member of each
-/// list, nested in the order interface, protocol, ICMP type, source, source port, target, target port, user, group, without the
-/// combinations of which two members name different families; the written family and those of translated addresses count. Each
-/// rule of an anchor form has the call. `defaults` are the policies of the moment, and `order` says which of two options of the
-/// statement stands first, where words of both may have a fault of one kind. Of several faults the first in the order of
-/// [`FaultKind`] is answered, with the first word of the statement that has it: NotAnAddress, MaskTooLong, FamilyMismatch,
-/// NoCombination (every word has a meaning, and no rule is left), UnknownInterface, UnknownService, UnknownProto,
-/// PortNeedsTcpUdp, BadPort, IcmpNeedsProto, BadIcmpType, FlagsNeedTcp, UnknownUser, RstNeedsTcp, TableName (pf.conf(5), lists,
-/// PARAMETERS, TRANSLATION and "antispoof").
+/// The first `room` rules of a form under the policies of the moment (pf.conf(5), lists, PARAMETERS, TRANSLATION): one for each
+/// combination of members of its lists that names no two families; or, with its first word, the fault that stands first in
+/// [`FaultKind`], `NoCombination` where none is left. `order` says which of two options of the statement stands first.
 pub fn expand(
     alloc: Global,
     form: &RuleForm,

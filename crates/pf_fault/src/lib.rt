@@ -6,6 +6,3 @@
 pub mod fault;
 
 pub use fault::{Fault, Stop, first_of};
-
-#[cfg(test)]
-mod tests;

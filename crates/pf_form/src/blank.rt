@@ -4,20 +4,9 @@ ghost use Rattle.pf_form.specs.Blank as says;
 
 use crate::form::{Draft, Head, RuleForm};
 use pf_base::List;
-use pf_parts::{Log, Scrub, StateOptions, TagTest};
+use pf_parts::{StateOptions, TagTest};
 use pf_rule::Params;
 use std::alloc::Global;
-
-const NO_PARAMS: Params = Params {
-    queue: None,
-    prio: None,
-    tos: None,
-    scrub: Scrub::NONE,
-    log: Log::NONE,
-    allow_opts: false,
-    nat: None,
-    rdr: None,
-};
 
 /// A form of which only the head is known.
 pub fn blank_form(alloc: Global, head: Head) -> RuleForm
@@ -35,7 +24,7 @@ pub fn blank_form(alloc: Global, head: Head) -> RuleForm
         tag: None,
         state: None,
         options: StateOptions::NONE,
-        params: NO_PARAMS,
+        params: Params::NONE,
         label: None,
         ifaces: List::new(alloc),
         protos: List::new(alloc),

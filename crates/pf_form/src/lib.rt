@@ -16,6 +16,3 @@ pub mod setting;
 pub mod state;
 
 pub use form::{Draft, FlagsForm, Head, RuleForm};
-
-#[cfg(test)]
-mod tests;

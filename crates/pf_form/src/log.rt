@@ -1,5 +1,4 @@
 //! Logs and `quick` (pf.conf(5), GRAMMAR, `logopts`).
-ghost use Rattle.std.specs.Prelude.{◌≡◌};
 ghost use Rattle.pf_form.specs.Log.{log_first, log_option, log_options, log_part, logged, quick_first};
 ghost use Rattle.pf_syntax.specs.Taking.{Takes};
 

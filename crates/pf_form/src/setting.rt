@@ -283,7 +283,7 @@ fn take_scrub_behind(cursor: &mut Cursor, word: ScrubWord, before: Scrub) -> Res
             if scrub.max_mss.is_some() {
                 return Err(Stop::Outside);
             }
-            let size = cursor.take_number(0, 65535)?;
+            let size = cursor.take_number(0, 65_535)?;
             scrub.max_mss = Some(size as u16);
         }
     }

@@ -37,11 +37,11 @@ const NONE_READ: ReadOptions = ReadOptions {
     repeated: false,
 };
 
-// Takes a number from 1 on.
+// Takes a number of 32 bits from 1 on.
 fn take_count(cursor: &mut Cursor) -> Result<u32, Stop>
     ensures { Takes count cursor.old result cursor.new }
 {
-    cursor.take_number(1, 4294967295)
+    cursor.take_number(1, 4_294_967_295)
 }
 
 // Takes how sources are tracked.

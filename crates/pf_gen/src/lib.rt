@@ -10,6 +10,3 @@ mod texts;
 
 pub use content::Generated;
 pub use making::generated;
-
-#[cfg(test)]
-mod tests;

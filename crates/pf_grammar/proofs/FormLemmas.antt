@@ -1,5 +1,5 @@
 -- What a statement is read as, and what it is refused for.
-use Rattle.std.proofs.Common.{◌≡◌, ℕ, Bool, true, false, List, [], ◌∷◌, Option, Some, None, refl, ap, sym, ◌∙◌}
+use Rattle.std.proofs.Common.{◌≡◌, ℕ, Bool, true, false, List, [], Option, Some, None, refl, ap, sym, ◌∙◌}
 use Rattle.std.specs.Prelude.{if◌then◌else◌}
 use Rattle.pf_token.specs.declared.token.Token.{Token}
 use Rattle.pf_syntax.specs.Fault.{fault_of_word, first_left_out, outside_fault}
@@ -11,12 +11,6 @@ use Rattle.pf_form.specs.declared.form.RuleForm.{RuleForm}
 use Rattle.pf_grammar.specs.Forms.{HasForm, IsDraft, RefusesDraft, RefusesForm}
 use Rattle.pf_grammar.specs.Late.{late_of, has_state_fault, has_anchor_effect}
 use Rattle.pf_grammar.specs.Statements.{statement}
-
--- the whole of the tokens is read
-pub draft_found : (tokens : List Token) (body : Bool) (draft : Draft) (rest : Symbols)
-    → (statement body).reads (symbols tokens) ≡ Some (draft, rest) → is_end rest ≡ true → IsDraft tokens body draft
-draft_found tokens body draft [] said ends = (statement body).exact.sound (symbols tokens) draft [] said
-draft_found tokens body draft (symbol ∷ rest) said ends = absurd (cc)
 
 abbrev draft_in : Draft → Option (Draft × Symbols) → Draft
 draft_in other None = other
@@ -31,12 +25,6 @@ pub draft_only : (tokens : List Token) (body : Bool) (draft other : Draft) (rest
     → (statement body).reads (symbols tokens) ≡ Some (draft, rest) → IsDraft tokens body other → draft ≡ other
 draft_only tokens body draft other rest said is =
     ap (draft_in draft) (sym said ∙ (statement body).exact.found (symbols tokens) other [] is)
-
--- nothing is read
-pub none_outside : (tokens : List Token) (body : Bool) → (statement body).reads (symbols tokens) ≡ None → (draft : Draft) → IsDraft tokens body draft → ⊥
-none_outside tokens body said draft is =
-    let e = sym said ∙ (statement body).exact.found (symbols tokens) draft [] is in
-    let b : false ≡ true = ap ends_in e in cc
 
 -- something is left
 pub none_before_more : (tokens : List Token) (body : Bool) (read : Draft) (rest : Symbols)
@@ -70,15 +58,6 @@ refused tokens body AnchorEffect is none =
 refused tokens body BadFlags is none =
     let b : false ≡ true = ap is_early is ∙ outside_is_early (first_left_out (symbols tokens)) in absurd (cc)
 refused tokens body NoMemory is none = tt
-
--- what refuses a draft refuses the form
-pub refused_form : (tokens : List Token) (body : Bool) (fault : FormFault) → RefusesDraft tokens body fault → RefusesForm tokens body fault
-refused_form tokens body Syntax is = is
-refused_form tokens body (Unsupported word) is = is
-refused_form tokens body OptionsFault is = absurd is
-refused_form tokens body AnchorEffect is = absurd is
-refused_form tokens body BadFlags is = absurd is
-refused_form tokens body NoMemory is = tt
 
 abbrev is_late : Option FormFault → Bool
 is_late None = true

@@ -83,10 +83,6 @@ pub until_keeps : {A : Type 0} {Holds : A → Type 0} {ends : Symbols → Bool} 
 until_keeps {Holds = Holds} {ends = ends} {step = step} {most = most} {value = value} each holds =
     record { kept = λ start last rest full. repeated_kept Holds ends step each (most start) value holds start last rest full }
 
--- what is said of the value is left out
-pub forget : {A : Type 0} {Holds : A → Type 0} {derives : Production A} → Keeps Holds derives → Keeps Anything derives
-forget keeps = record { kept = λ start value rest full is. record { holds = tt; full = (keeps.kept start value rest full is).full } }
-
 -- one part of which nothing is said, and behind it another
 pub row : {A B : Type 0} {Holds : B → Type 0} {first : Production A} {second : A → Production B}
     → Keeps Anything first → ((part : A) → Keeps Holds (second part)) → Keeps Holds (Then first second)

@@ -1,5 +1,5 @@
 //! The heads of rules, and the kinds of blocks (pf.conf(5), GRAMMAR).
-ghost use Rattle.std.specs.Prelude.{◌≡◌, IfOk};
+ghost use Rattle.std.specs.Prelude.{◌≡◌};
 ghost use Rattle.pf_grammar.specs.Heads.{anchor_head, block_kind, head_words, icmp6_kind, icmp_kind, is_anchor_name, kind_behind, reset_kind, second_code, words_behind_anchor};
 ghost use Rattle.pf_syntax.specs.Fault.{is_one_of};
 ghost use Rattle.pf_syntax.specs.Symbols.{next_is};
@@ -7,13 +7,12 @@ ghost use Rattle.pf_syntax.specs.Taking.{Takes};
 ghost use Rattle.pf_syntax.specs.Words.{keyword, name};
 
 use crate::keyword::{HeadWord, KindWord};
-use pf_base::{List, Name, NoMemory, Text};
+use pf_base::{List, Text};
 use pf_form::Head;
 use pf_parts::BlockKind;
 use pf_syntax::keyword::{Key, is_at_key, take_key};
 use pf_syntax::listed::{Listed, is_one_of};
 use pf_syntax::{Cursor, Stop};
-use std::alloc::Global;
 
 const HEAD_WORDS: [Key<HeadWord>; 6] = [
     Key(b"pass", HeadWord::Pass),
@@ -171,22 +170,13 @@ fn is_at_anchor_name(cursor: &Cursor) -> bool
     }
 }
 
-// The text of a name.
-fn text_of(alloc: Global, name: &Name) -> Result<Text, NoMemory>
-    ensures { IfOk result (λ text. text ≡ name.now) }
-{
-    let mut text = List::new(alloc);
-    text.append_copy(name.bytes())?;
-    Ok(text)
-}
-
 /// Takes a name, as a text.
 pub fn take_text(cursor: &mut Cursor) -> Result<Text, Stop>
     ensures { Takes name cursor.old result cursor.new }
 {
     let alloc = cursor.alloc();
     let name = cursor.take_name()?;
-    let text = text_of(alloc, &name)?;
+    let text = List::copy_of(alloc, name.bytes())?;
     Ok(text)
 }
 

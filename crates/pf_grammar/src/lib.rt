@@ -17,6 +17,3 @@ pub use late::late_of;
 pub use pf_form::{Draft, FlagsForm, Head, RuleForm};
 pub use pf_syntax::{FormFault, form_fault};
 pub use words::forms_have_words;
-
-#[cfg(test)]
-mod tests;

@@ -1,5 +1,5 @@
 //! Rules, antispoof and load anchor (pf.conf(5), GRAMMAR).
-ghost use Rattle.std.specs.Prelude.{◌≡◌, [], map, IfOk};
+ghost use Rattle.std.specs.Prelude.{◌≡◌, map, IfOk};
 ghost use Rattle.pf_form.specs.Blank.{with_form};
 ghost use Rattle.pf_grammar.specs.Options.{option};
 ghost use Rattle.pf_grammar.specs.Statements.{anchor, anchor_statement, antispoof, block, label, load_anchor, names_for, on_interface, plain_statement, rule, rule_front, statement};

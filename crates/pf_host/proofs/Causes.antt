@@ -1,5 +1,5 @@
 -- The first cause of a line, or none, from what the facts before it have.
-use Rattle.std.proofs.Common.{◌≡◌, ℕ, ◌+◌, ◌≤◌, Bool, true, false, not, nat_le, List, length, Some, None, refl, ap, arith}
+use Rattle.std.proofs.Common.{◌≡◌, ℕ, ◌+◌, ◌≤◌, Bool, true, false, not, nat_le, List, length, Some, None, refl, arith}
 use Rattle.pf_base.specs.Decimal.{decimal_of}
 use Rattle.pf_addr.specs.Grammar.{IsAddrText}
 use Rattle.pf_addr.specs.declared.addr.Addr.{Addr}
@@ -127,17 +127,6 @@ service_sound before name word number new is cause =
       | Full ↦ λ h. no false refl h
     ]
 
-pub host_bad : (before : List Line) (name word : List ℕ) → ((address : Addr) → IsAddrText word address → ⊥) → IsFirst (HasCause before (line_with Host name word)) BadAddress
-host_bad before name word bad = record {
-  has = bad;
-  first = λ other. elim other as (λ o. rank o + 1 ≤ rank BadAddress → HasCause before (line_with Host name word) o → ⊥) [
-    | BadLine ↦ λ low h. h
-    | Unknown ↦ λ low h. no false refl h
-    | Twice ↦ λ low h. no false refl h
-    | BadAddress ↦ λ low h. absurd (omega (arith, low))
-    | BadNumber ↦ λ low h. absurd (omega (arith, low))
-    | Full ↦ λ low h. absurd (omega (arith, low))
-  ];
 }
 
 pub host_sound : (before : List Line) (name word : List ℕ) (address : Addr) → IsAddrText word address → (cause : FactsCause) → HasCause before (line_with Host name word) cause → ⊥
@@ -155,30 +144,8 @@ known : (b : Bool) → b ≡ true → not b ≡ true → ⊥
 known true e h = cc
 known false e h = cc
 
-pub address_unknown : (before : List Line) (name word : List ℕ) → is_named Interface before name ≡ false → IsFirst (HasCause before (line_with Address name word)) Unknown
-address_unknown before name word new = record {
-  has = ap not new;
-  first = λ other. elim other as (λ o. rank o + 1 ≤ rank Unknown → HasCause before (line_with Address name word) o → ⊥) [
-    | BadLine ↦ λ low h. h
-    | Unknown ↦ λ low h. absurd (omega (arith, low))
-    | Twice ↦ λ low h. absurd (omega (arith, low))
-    | BadAddress ↦ λ low h. absurd (omega (arith, low))
-    | BadNumber ↦ λ low h. absurd (omega (arith, low))
-    | Full ↦ λ low h. absurd (omega (arith, low))
-  ];
 }
 
-pub address_bad : (before : List Line) (name word : List ℕ) → is_named Interface before name ≡ true → ((address : Masked) → IsMaskedText word address → ⊥) → IsFirst (HasCause before (line_with Address name word)) BadAddress
-address_bad before name word named bad = record {
-  has = bad;
-  first = λ other. elim other as (λ o. rank o + 1 ≤ rank BadAddress → HasCause before (line_with Address name word) o → ⊥) [
-    | BadLine ↦ λ low h. h
-    | Unknown ↦ λ low h. known (is_named Interface before name) named h
-    | Twice ↦ λ low h. no false refl h
-    | BadAddress ↦ λ low h. absurd (omega (arith, low))
-    | BadNumber ↦ λ low h. absurd (omega (arith, low))
-    | Full ↦ λ low h. absurd (omega (arith, low))
-  ];
 }
 
 pub address_full : (before : List Line) (name word : List ℕ) (address : Masked) → is_named Interface before name ≡ true → IsMaskedText word address → nat_le 1024 (length (lines_about Address before)) ≡ true → IsFirst (HasCause before (line_with Address name word)) Full
@@ -205,30 +172,8 @@ address_sound before name word address named is room cause =
       | Full ↦ λ h. no (nat_le 1024 (length (lines_about Address before))) room h
     ]
 
-pub interface_twice : (before : List Line) (name : List ℕ) (rest : List (List ℕ)) → is_named Interface before name ≡ true → IsFirst (HasCause before (record { kind = Interface; name = name; rest = rest })) Twice
-interface_twice before name rest named = record {
-  has = named;
-  first = λ other. elim other as (λ o. rank o + 1 ≤ rank Twice → HasCause before (record { kind = Interface; name = name; rest = rest }) o → ⊥) [
-    | BadLine ↦ λ low h. h
-    | Unknown ↦ λ low h. no false refl h
-    | Twice ↦ λ low h. absurd (omega (arith, low))
-    | BadAddress ↦ λ low h. absurd (omega (arith, low))
-    | BadNumber ↦ λ low h. absurd (omega (arith, low))
-    | Full ↦ λ low h. absurd (omega (arith, low))
-  ];
 }
 
-pub interface_full : (before : List Line) (name : List ℕ) (rest : List (List ℕ)) → is_named Interface before name ≡ false → nat_le 1024 (length (lines_about Interface before)) ≡ true → IsFirst (HasCause before (record { kind = Interface; name = name; rest = rest })) Full
-interface_full before name rest new full = record {
-  has = full;
-  first = λ other. elim other as (λ o. rank o + 1 ≤ rank Full → HasCause before (record { kind = Interface; name = name; rest = rest }) o → ⊥) [
-    | BadLine ↦ λ low h. h
-    | Unknown ↦ λ low h. no false refl h
-    | Twice ↦ λ low h. no (is_named Interface before name) new h
-    | BadAddress ↦ λ low h. h
-    | BadNumber ↦ λ low h. h
-    | Full ↦ λ low h. absurd (omega (arith, low))
-  ];
 }
 
 pub interface_sound : (before : List Line) (name : List ℕ) (rest : List (List ℕ)) → is_named Interface before name ≡ false → nat_le 1024 (length (lines_about Interface before)) ≡ false → (cause : FactsCause) → HasCause before (record { kind = Interface; name = name; rest = rest }) cause → ⊥

@@ -1,7 +1,6 @@
 -- The first address of each family of each interface, one address more.
-use Rattle.std.proofs.Common.{◌≡◌, Bool, true, false, not, ◌||◌, List, [], ◌∷◌, ◌++◌, filter, Result, Ok, Err, if◌then◌else◌, refl, ap, ◌∙◌}
+use Rattle.std.proofs.Common.{◌≡◌, Bool, true, false, not, ◌||◌, List, [], ◌∷◌, ◌++◌, filter, refl, ap, ◌∙◌}
 use Rattle.std.specs.List.{list_any}
-use Rattle.std.specs.Result.{is_err, is_ok}
 use Rattle.std.proofs.lemmas.List.{append-nil}
 use Rattle.std.proofs.lemmas.List.Elements.{filter-append}
 use Rattle.pf_addr.specs.declared.parse.Masked.{Masked}
@@ -34,8 +33,3 @@ firsts_stay addresses b e = firsts_push addresses b ∙ (ap (λ t. first_of_each
 -- another is added
 pub firsts_grow : (addresses : List (Row Masked)) (b : Row Masked) → list_any (λ a. is_beside a b) addresses ≡ false → first_of_each (addresses ++ b ∷ []) ≡ first_of_each addresses ++ b ∷ []
 firsts_grow addresses b e = firsts_push addresses b ∙ ap (λ t. first_of_each addresses ++ gain t b) e
-
--- a push that isn't refused
-pub appended : {A E : Type 0} (r : Result A E) (old more new : List (Row Masked)) → is_err r ≡ false → new ≡ (if (is_ok r) then more else old) → new ≡ more
-appended (Ok x) old more new e is = is
-appended (Err x) old more new e is = cc

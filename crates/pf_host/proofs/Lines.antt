@@ -1,30 +1,8 @@
--- The lines of a text, and the fields of a line.
-use Rattle.std.proofs.Common.{◌≡◌, ℕ, Bool, true, false, cond, List, [], ◌∷◌, length, ◌==◌, arith, refl, sym, ap, ◌∙◌}
+-- The fields of a line.
+use Rattle.std.proofs.Common.{◌≡◌, ℕ, Bool, true, false, cond, List, [], ◌∷◌, refl}
 use Rattle.std.specs.List.{onto_first, slice_split}
-use Rattle.std.proofs.lemmas.Bool.{eqb-true}
-use Rattle.pf_base.specs.Text.{CutsLine, EndsNoLine, fields_of, is_nothing, is_space, line_of_rest, lines_of, unfinished, whole_lines}
+use Rattle.pf_base.specs.Text.{fields_of, is_space}
 use Rattle.pf_host.specs.Line.{is_one}
-
-pub no_lines : lines_of [] ≡ []
-unfolding lines_of whole_lines unfinished
-no_lines = refl
-
-pub empty_lines : (text : List ℕ) → (length text == 0) ≡ true → lines_of text ≡ []
-empty_lines [] e = no_lines
-empty_lines (byte ∷ text) e = let none : length (byte ∷ text) ≡ 0 = eqb-true (length (byte ∷ text)) 0 e in absurd (omega arith)
-
-pub first_line : (text line rest : List ℕ) → CutsLine text line rest → lines_of text ≡ line ∷ lines_of rest
-unfolding lines_of
-first_line text line rest cut = rw (cut.whole [] refl, cut.behind [] refl) refl
-
-last_lines : (text : List ℕ) → EndsNoLine text → lines_of text ≡ line_of_rest text
-unfolding lines_of
-last_lines text ends = rw (ends.whole [] refl, ends.behind [] refl) refl
-
--- a last piece that isn't empty is the last line
-pub last_line : (text : List ℕ) → (length text == 0) ≡ false → EndsNoLine text → lines_of text ≡ text ∷ lines_of []
-last_line [] some ends = absurd cc
-last_line (byte ∷ text) some ends = last_lines (byte ∷ text) ends ∙ ap (λ rest. (byte ∷ text) ∷ rest) (sym no_lines)
 
 -- a word before a space isn't alone
 two_parts : (word : List ℕ) (b : Bool) (x : ℕ) (parts : List (List ℕ)) → is_one (word ∷ cond b ([] ∷ parts) (onto_first x parts)) ≡ false
@@ -36,9 +14,3 @@ pub not_one : (word rest : List ℕ) → is_one (word ∷ fields_of rest) ≡ fa
 unfolding fields_of
 not_one word [] = refl
 not_one word (x ∷ rest) = two_parts word (is_space x) x (slice_split is_space rest)
-
--- a word without bytes is no word
-pub nothing_empty : (word : List ℕ) (b : Bool) → (length word == 0) ≡ b → is_nothing word ≡ b
-nothing_empty [] b e = e
-nothing_empty (byte ∷ word) true e = let none : length (byte ∷ word) ≡ 0 = eqb-true (length (byte ∷ word)) 0 e in absurd (omega arith)
-nothing_empty (byte ∷ word) false e = refl

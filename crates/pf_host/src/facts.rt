@@ -74,8 +74,8 @@ impl Facts {
         }
     }
 
-    /// Whether the name is the interface, one of its groups, or the interface's name without the digits at
-    /// its end, as `on` of pf.conf(5) takes it.
+    /// Whether `on` with this name takes the interface (pf.conf(5)): it has the name, or has it once all digits
+    /// at its end are cut off, or is a member of the group of this name.
     pub fn in_group(&self, name: &Name, iface: &Name) -> bool
         ensures { result ≡ queries.in_group self.now name.now iface.now }
     {
@@ -124,9 +124,9 @@ impl Facts {
         Ok(prefixes)
     }
 
-    /// The addresses of the interfaces that the name means, or with `network` their networks, in the order of
-    /// the facts; with `first` only the first of each family of each interface. The name `self` means all
-    /// interfaces (pf.conf(5), PARAMETERS, from).
+    /// What a name stands for where a host is wanted, in the order of the facts: the addresses of each interface
+    /// that it means, with `self` of them all. `network` takes the networks instead; `first` leaves an interface
+    /// one address of each family, its first (pf.conf(5), PARAMETERS, from).
     pub fn addresses(&self, alloc: Global, what: &DynIf) -> Result<List<Prefix>, NoMemory>
         ensures { IfOk result (λ prefixes. prefixes ≡ queries.addresses_of self.now what.now) }
     {
@@ -134,8 +134,8 @@ impl Facts {
         Ok(prefixes)
     }
 
-    /// The addresses of exactly this interface, or with `network` their networks, in the order of the facts;
-    /// none where there is no such interface. `antispoof` of pf.conf(5) asks for each interface by itself.
+    /// The addresses of this interface alone, or with `network` their networks, in the order of the facts; an
+    /// unknown interface has none. `antispoof` of pf.conf(5) asks for each interface by itself.
     pub fn own_addresses(
         &self,
         alloc: Global,
@@ -185,7 +185,7 @@ impl Facts {
         self.lists.hosts.has(name)
     }
 
-    /// The host's addresses in the order of the facts, none where there is no such host.
+    /// What the facts say of a host: its addresses, in their order there. An unknown host has none.
     pub fn host(&self, alloc: Global, name: &Name) -> Result<List<Addr>, NoMemory>
         ensures { IfOk result (λ addresses. addresses ≡ queries.host_of self.now name.now) }
     {

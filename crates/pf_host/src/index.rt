@@ -5,7 +5,6 @@ ghost use Rattle.std.specs.Str.{bytes_eq};
 ghost use Rattle.pf_host.specs.Rows.{has_row, values_at, values_of};
 
 use crate::row::Row;
-use crate::values::Values;
 use pf_base::{List, Name, NoMemory};
 use std::alloc::Global;
 use std::collections::BTreeMap;
@@ -16,7 +15,7 @@ use std::marker::Model;
 #[derive(Debug, Drop)]
 pub struct Index<T> {
     rows: Vec<Row<T>>,
-    by_name: BTreeMap<Name, Values<T>>,
+    by_name: BTreeMap<Name, List<T>>,
 }
 
 impl<T> Model for Index<T> {
@@ -34,7 +33,7 @@ impl<T> Model for Index<T> {
 // Adds a value to those of the name.
 fn keep_value<T: Copy>(
     alloc: Global,
-    by_name: &mut BTreeMap<Name, Values<T>>,
+    by_name: &mut BTreeMap<Name, List<T>>,
     name: Name,
     value: T,
 ) -> Result<(), NoMemory>
@@ -45,7 +44,7 @@ fn keep_value<T: Copy>(
         values.push(value)?;
         return Ok(());
     }
-    let mut values = Values::new(alloc);
+    let mut values = List::new(alloc);
     values.push(value)?;
     by_name.insert(name, values)?;
     Ok(())
@@ -108,7 +107,7 @@ impl<T: Copy> Index<T> {
     pub(crate) fn all(&self, alloc: Global, name: &Name) -> Result<List<T>, NoMemory>
         ensures { IfOk result (λ values. values ≡ values_of self.now name.now) }
     {
-        Ok(List::of(Vec::from_slice(alloc, self.get(name))?))
+        List::copy_of(alloc, self.get(name))
     }
 }
 

@@ -1,7 +1,7 @@
 //! Laws of the definitions, for the crates above: a caller of a law has its clauses.
 ghost use Rattle.std.specs.Prelude.{◌≡◌, ℕ, List};
 ghost use Rattle.pf_host.specs.declared.fault.FactsCause.{FactsCause as Cause};
-ghost use Rattle.pf_host.specs.Facts.{HostFacts, no_facts};
+ghost use Rattle.pf_host.specs.Facts.{HostFacts};
 ghost use Rattle.pf_host.specs.Meaning.{IsFactsText, IsFaultAt};
 
 use pf_addr::texts_are_read_in_one_way;

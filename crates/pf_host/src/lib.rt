@@ -16,12 +16,8 @@ mod names;
 pub mod read;
 mod row;
 mod statement;
-mod values;
 
 pub use facts::Facts;
 pub use fault::{FactsCause, FactsFault};
 pub use laws::{facts_and_one_fault_exclude_each_other, facts_have_one_meaning};
 pub use read::read_facts;
-
-#[cfg(test)]
-mod tests;

@@ -22,7 +22,7 @@ use std::alloc::Global;
 const MOST: usize = 1024;
 
 // The greatest port.
-const MOST_PORT: u32 = 65535;
+const MOST_PORT: u32 = 65_535;
 
 /// The facts, each kind in the order of its lines, with what finds them by name.
 #[derive(Debug, Drop)]

@@ -14,7 +14,7 @@ use Rattle.pf_lexer.specs.Closes.{is_body, is_end, is_long}
 use Rattle.pf_lexer.specs.Faults.{IncludeParts, Parts, file_named, include_faults, include_of, is_nothing, joined, decided, definition_faults, definition_of, faults_of, length_fault, or_earlier, token_faults, too_large_at}
 use Rattle.pf_token.specs.Kinds.{place_of}
 use Rattle.pf_lexer.specs.Statements.{Ends as EndsAt, at_end, at_newline, skipped, at_body, too_long, taken, begins_anchor, IsStatement}
-use Rattle.pf_lexer.specs.Taking.{is_over, rest_after}
+use Rattle.pf_lexer.specs.Taking.{rest_after}
 use Rattle.pf_lexer.specs.declared.deed.Statement.{Statement}
 use Rattle.pf_token.specs.Macros.{Table, value_of, with_definition}
 use Rattle.pf_lexer.specs.declared.deed.Deed.TheVariants.{Nothing, Hands, Includes, Ends, Fails}
@@ -89,18 +89,6 @@ is_nothing_is (first ∷ rest) count answer is e = sym (e ∙ ne_eqb count 0 (λ
 nothing_is : (lexemes : List Lexeme) → is_nothing lexemes ≡ true → lexemes ≡ []
 nothing_is [] e = refl
 nothing_is (first ∷ rest) e = absurd cc
-
--- something is left to be read behind such statements
-pub defined_not_over : (lexemes : List Lexeme) (close : Close) (parts : Parts) → Some parts ≡ definition_of lexemes → is_over lexemes close ≡ false
-defined_not_over [] close parts e = absurd cc
-defined_not_over (first ∷ rest) close parts e = refl
-
-pub closed_not_over : (lexemes : List Lexeme) (close : Close) → is_end close ≡ false → is_over lexemes close ≡ false
-closed_not_over [] End e = absurd cc
-closed_not_over [] Line e = refl
-closed_not_over [] Body e = refl
-closed_not_over [] Long e = refl
-closed_not_over (first ∷ rest) close e = refl
 
 -- the name of an include's file
 named_parts : (parts : Option IncludeParts) (name : List ℕ) → Some name ≡ option_map file_named parts → (found : IncludeParts) × (parts ≡ Some found) × (name ≡ file_named found)

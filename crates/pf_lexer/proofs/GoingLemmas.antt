@@ -1,5 +1,5 @@
 -- One statement after the other.
-use Rattle.std.proofs.Common.{◌≡◌, ℕ, List, [], ◌++◌, Some, Err, ap, sym, ◌∙◌, append_assoc, append-nil, arith}
+use Rattle.std.proofs.Common.{◌≡◌, ℕ, List, [], ◌++◌, Option, Some, Ok, Err, ap, sym, ◌∙◌, append_assoc, append-nil, arith}
 use Rattle.pf_source.specs.Told.{FilesTold, Held}
 use Rattle.pf_source.specs.AskingLaws.{asked_on, nothing_asked}
 use Rattle.pf_source.specs.Disk.{Disk}
@@ -7,8 +7,9 @@ use Rattle.pf_base.specs.declared.fault.Place.{Place}
 use Rattle.pf_token.specs.declared.token.Cause.{Cause}
 use Rattle.pf_token.specs.declared.token.Cause.TheVariants as causes
 use Rattle.pf_token.specs.declared.token.Fault.{Fault as FaultOf}
+use Rattle.pf_lexer.specs.declared.deed.Statement.{Statement}
 use Rattle.pf_lexer.specs.declared.fault.LexFault.{LexFault}
-use Rattle.pf_lexer.specs.Calls.{AsksAndReads, RunsOut, StopsWith, unread_by, unread_from}
+use Rattle.pf_lexer.specs.Calls.{AsksAndReads, IsGoing, RunsOut, StopsWith, unread_by, unread_from}
 use Rattle.pf_lexer.specs.Going.{IsStopped}
 use Rattle.pf_lexer.specs.ReadSoFar.{ReadSoFar}
 use Rattle.pf_lexer.specs.Reads.{Made}
@@ -59,6 +60,16 @@ module _ (names : List (List ℕ)) (old mid new : FilesTold) (reads later latest
     grows = record { more = first.grows.more ++ second.grows.more; is = second.grows.is ∙ ap (λ l. l ++ second.grows.more) first.grows.is ∙ append_assoc reads.names first.grows.more second.grows.more };
     left = omega (arith, first.left, second.left);
   }
+
+-- calls of which none fails in a read, and one more that hands something out or nothing
+pub asks_further : (stage : Stage) (found : Option Statement) (old mid new : FilesTold) (reads later latest : ReadSoFar) → AsksAndReads [] old mid reads later → AsksAndReads (unread_from stage (Ok found)) mid new later latest → AsksAndReads [] old new reads latest
+asks_further (going unit) found old mid new reads later latest first second = asks_both [] old mid new reads later latest first second
+asks_further (failed fault) found old mid new reads later latest first second = asks_both [] old mid new reads later latest first second
+
+-- and one more that ends with a fault
+pub asks_last : (stage : Stage) (fault : LexFault) (old mid new : FilesTold) (reads later latest : ReadSoFar) → IsGoing stage → AsksAndReads [] old mid reads later → AsksAndReads (unread_from stage (Err fault)) mid new later latest → AsksAndReads (unread_by fault) old new reads latest
+asks_last (going unit) fault old mid new reads later latest is first second = asks_both (unread_by fault) old mid new reads later latest first second
+asks_last (failed other) fault old mid new reads later latest is first second = absurd is
 
 -- a statement more
 goes_append : {disk : Disk} {unit next last : Standing} {reads later latest : ReadSoFar} → GoesTo disk unit reads next later → GoesTo disk next later last latest → GoesTo disk unit reads last latest

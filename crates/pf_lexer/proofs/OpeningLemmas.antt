@@ -17,7 +17,7 @@ use Rattle.pf_lexer.specs.declared.reads.ReadsFault.TheVariants as reading
 use Rattle.pf_lexer.specs.Calls.{AsksAndReads, IsNumbered, IsUnopened, unread_by}
 use Rattle.pf_lexer.specs.Going.{unopened}
 use Rattle.pf_lexer.specs.ReadSoFar.{ReadSoFar}
-use Rattle.pf_lexer.specs.Reads.{GoesOn, IfNamed, IsLook, Made, after_answer, given, has_read, look_up, read_limit, unread_of}
+use Rattle.pf_lexer.specs.Reads.{GoesOn, IfNamed, IsLook, Made, after_answer, failed_read, given, has_read, look_up, read_limit}
 use Rattle.pf_lexer.specs.Units.{Opens, opened, large, unread}
 
 module _ (disk : Disk) (name : List ℕ) (reads later : ReadSoFar) where
@@ -95,7 +95,7 @@ made_by reads later name (Err (reading.TooLarge number)) after few = subst (λ (
 made_by reads later name (Err reading.NoMemory) after few = subst (λ (r : ReadSoFar). Made reads r) (sym after) Made.none
 
 -- the name of the reading that failed
-pub asks_unopened : (name : List ℕ) (fault : ReadsFault) (old new : FilesTold) (reads later : ReadSoFar) → Asks (unread_of name (Err fault)) old new → Made reads later → GoesOn reads.names later.names → AsksAndReads (unread_by (unopened name fault)) old new reads later
+pub asks_unopened : (name : List ℕ) (fault : ReadsFault) (old new : FilesTold) (reads later : ReadSoFar) → Asks (failed_read name (Err fault)) old new → Made reads later → GoesOn reads.names later.names → AsksAndReads (unread_by (unopened name fault)) old new reads later
 asks_unopened name reading.Failed old new reads later asks made grows = asks_made (name ∷ []) old new reads later asks made grows
 asks_unopened name (reading.TooLarge number) old new reads later asks made grows = asks_made [] old new reads later asks made grows
 asks_unopened name reading.NoMemory old new reads later asks made grows = asks_made [] old new reads later asks made grows

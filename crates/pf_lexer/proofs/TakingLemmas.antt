@@ -105,10 +105,6 @@ abbrev pub IsLighter : List Lexeme → ℕ → ℕ → Type 0
 IsLighter [] now start = now ≤ start
 IsLighter (first ∷ rest) now start = now < start
 
-pub lighter_from : (lexemes : List Lexeme) (now start : ℕ) → now < start → IsLighter lexemes now start
-lighter_from [] now start less = omega arith
-lighter_from (first ∷ rest) now start less = less
-
 -- one token over the most, or none
 pub one_over : (before now : List Lexeme) (lexeme : Lexeme) → length before ≤ most_tokens → now ≡ before ++ lexeme ∷ [] → most_tokens < length now → length before ≡ most_tokens
 one_over before now lexeme few is over = omega (arith, ap length is, length-append before (lexeme ∷ []))

@@ -41,7 +41,3 @@ total_drop values i value inside is =
 pub joined_spaced : (first : Lexeme) (rest : List Lexeme) → text_of first ++ spaced rest ≡ joined (first ∷ rest)
 joined_spaced first [] = append-nil (text_of first)
 joined_spaced first (next ∷ rest) = ap (λ t. text_of first ++ (32 ∷ t)) (joined_spaced next rest)
-
-pub spaced_drop : (texts : List Lexeme) (i : ℕ) (lexeme : Lexeme) → i < length texts → lexeme ≡ get_or texts i lexeme → spaced (drop i texts) ≡ (32 ∷ text_of lexeme) ++ spaced (drop (i + 1) texts)
-spaced_drop texts i lexeme inside is =
-    ap spaced (drop_more texts i lexeme inside) ∙ ap (λ l. (32 ∷ text_of l) ++ spaced (drop (i + 1) texts)) (sym is)

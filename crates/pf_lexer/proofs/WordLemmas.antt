@@ -1,10 +1,9 @@
 -- Each word of a statement has a byte.
-use Rattle.std.proofs.Common.{◌≡◌, ℕ, Bool, true, false, List, [], ◌∷◌, ◌++◌, Option, Some, None, Ok, Err, length, refl, ◌∙◌, arith}
+use Rattle.std.proofs.Common.{◌≡◌, ℕ, Bool, true, false, List, [], ◌∷◌, ◌++◌, Option, Some, None, length, refl, ◌∙◌, arith}
 use Rattle.std.specs.List.{list_all}
 use Rattle.std.proofs.lemmas.Bool.{and_from, and_parts, le-leb}
 use Rattle.std.proofs.lemmas.List.Folds.{list_all-append}
 use Rattle.pf_base.specs.declared.fault.Place.{Place}
-use Rattle.pf_source.specs.Disk.{Disk}
 use Rattle.pf_token.specs.declared.cell.Cell.{Cell}
 use Rattle.pf_token.specs.declared.token.Lexeme.{Lexeme}
 use Rattle.pf_token.specs.declared.token.Lexeme.TheVariants.{Token, Fault}
@@ -15,11 +14,8 @@ use Rattle.pf_lexer.specs.declared.deed.Deed.{Deed}
 use Rattle.pf_lexer.specs.declared.deed.Deed.TheVariants as deeds
 use Rattle.pf_lexer.specs.declared.statement.Close.{Close}
 use Rattle.pf_lexer.specs.Deeds.{Does, tokens_in}
-use Rattle.pf_lexer.specs.ReadSoFar.{ReadSoFar}
-use Rattle.pf_lexer.specs.Stages.{Stage}
 use Rattle.pf_lexer.specs.Statements.{Ends, at_end, at_newline, skipped, at_body, too_long, taken}
-use Rattle.pf_lexer.specs.Units.{Answer, Answers, Leads}
-use Rattle.pf_lexer.specs.Words.{FoundHasBytes, token_has_bytes, tokens_have_bytes}
+use Rattle.pf_lexer.specs.Words.{token_has_bytes, tokens_have_bytes}
 
 abbrev has_bytes : Lexeme → Bool
 has_bytes (Token token) = token_has_bytes token
@@ -92,15 +88,3 @@ does_full (Does.names one none is) = tt
 does_full (Does.hands {lexemes = lexemes} one none is other some) = tokens_full lexemes (ends_full _ one refl)
 does_full (Does.ends one) = tt
 does_full (Does.fails one is) = tt
-
-abbrev AnswerHasBytes : Answer → Type 0
-AnswerHasBytes (Ok found) = FoundHasBytes found
-AnswerHasBytes (Err fault) = Unit {0}
-
--- and so has each word of what comes next of a unit
-pub leads_full : {disk : Disk} {stage next : Stage} {reads later : ReadSoFar} {answer : Answer} → Leads disk stage reads answer next later → AnswerHasBytes answer
-leads_full (Leads.comes goes (Answers.hands does)) = does_full does
-leads_full (Leads.comes goes (Answers.over does is)) = tt
-leads_full (Leads.comes goes (Answers.fails does)) = tt
-leads_full (Leads.comes goes (Answers.unopened does opens)) = tt
-leads_full Leads.again = tt

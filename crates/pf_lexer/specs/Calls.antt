@@ -29,13 +29,18 @@ abbrev pub unread_in : {T : Type 0} → Result T LexFault → List (List ℕ)
 unread_in (Ok x) = []
 unread_in (Err fault) = unread_by fault
 
+-- the name of the file for which the fault that ends a unit comes
+abbrev pub unread_at_end : Option LexFault → List (List ℕ)
+unread_at_end None = []
+unread_at_end (Some fault) = unread_by fault
+
 -- the names of the reads that failed in a call: where a fault comes again, none did
 abbrev pub unread_from : Stage → Answer → List (List ℕ)
 unread_from (going unit) answer = unread_in answer
 unread_from (failed fault) answer = []
 
--- What one call asks of the files, and what the reads are after it: they hold the readings that were made, also after a
--- fault, and the files of these names couldn't be read.
+-- What one call asks of the files, and what the reads are after it, also after a fault: the files of these names couldn't be
+-- read, and the reads are such as readings lead to, with names behind the others, each once, and bytes taken off.
 pub record AsksAndReads (names : List (List ℕ)) (old new : FilesTold) (reads later : ReadSoFar) : Type 0 where
   pub files : Asks names old new
   pub made : Made reads later

@@ -28,8 +28,8 @@ has_read reads name bytes = record { names = with_name reads.names name; left = 
 abbrev pub has_numbered : ReadSoFar → List ℕ → ReadSoFar
 has_numbered reads name = record { names = with_name reads.names name; left = reads.left }
 
--- From some reads to later ones, these readings were made, one after the other, and no others: of a file, which was no
--- larger than it may be, or of one that was too large. A failed reading changes nothing.
+-- Some readings, one after the other, lead from these reads to the later ones: of a file that was no larger than it may be, or
+-- of one that was too large. A failed reading changes nothing.
 pub data Made : ReadSoFar → ReadSoFar → Type 0 where
   none : {reads : ReadSoFar} → Made reads reads
   read : {reads later : ReadSoFar} (name bytes : List ℕ)
@@ -88,8 +88,8 @@ pub record GoesOn (old new : List (List ℕ)) : Type 0 where
   pub is : new ≡ old ++ more
 
 -- the name of the reading that failed in a call
-abbrev pub unread_of : List ℕ → Result ReadFile ReadsFault → List (List ℕ)
-unread_of name (Ok file) = []
-unread_of name (Err faults.Failed) = name ∷ []
-unread_of name (Err (faults.TooLarge number)) = []
-unread_of name (Err faults.NoMemory) = []
+abbrev pub failed_read : List ℕ → Result ReadFile ReadsFault → List (List ℕ)
+failed_read name (Ok file) = []
+failed_read name (Err faults.Failed) = name ∷ []
+failed_read name (Err (faults.TooLarge number)) = []
+failed_read name (Err faults.NoMemory) = []

@@ -4,7 +4,7 @@ ghost use Rattle.std.specs.List.{list_all, list_any};
 ghost use Rattle.std.specs.Option.{option_map};
 ghost use Rattle.pf_token.specs.Bytes.{is_name_byte};
 ghost use Rattle.pf_lexer.specs.Faults.{decided, definition_faults, definition_of, faults_of, file_named, has_form, include_faults, include_of, is_file_name, is_large, is_macro_name, joined, most_bytes, names_file, or_earlier};
-ghost use Rattle.pf_token.specs.Kinds.{is_fault, is_text, place_of, rank, text_of};
+ghost use Rattle.pf_token.specs.Kinds.{is_fault, is_text, rank};
 ghost use Rattle.pf_lexer.specs.Taking.{spaced};
 
 use crate::statement::Close;

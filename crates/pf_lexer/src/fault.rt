@@ -1,5 +1,5 @@
 //! Why a unit isn't read to its end.
-ghost use Rattle.std.specs.Prelude.{◌≡◌, ℕ, List, IfOk};
+ghost use Rattle.std.specs.Prelude.{◌≡◌, ℕ, List};
 ghost use Rattle.pf_lexer.specs.Calls.{IsAgain};
 ghost use Rattle.pf_lexer.specs.Units.{answered};
 ghost use Rattle.pf_lexer.specs.declared.fault.LexFault.TheVariants.{NoMemory as no_memory};
@@ -50,14 +50,6 @@ impl From<NoMemory> for LexFault {
     }
 }
 
-/// A copy of a file's name.
-pub fn copy_text(alloc: Global, text: &Text) -> Result<Text, NoMemory>
-    ensures { IfOk result (λ copy. copy ≡ text.now) }
-{
-    let bytes = Vec::from_slice(alloc, text.items())?;
-    Ok(List::of(bytes))
-}
-
 impl LexFault {
     /// The fault of a statement, as it is answered.
     pub fn answered(fault: &Fault) -> LexFault
@@ -100,7 +92,7 @@ impl LexFault {
         ensures { IsAgain self.now result }
     {
         match self {
-            LexFault::CannotRead(name) => match copy_text(alloc, name) {
+            LexFault::CannotRead(name) => match List::copy_of(alloc, name.items()) {
                 Ok(copy) => LexFault::CannotRead(copy),
                 Err(_) => LexFault::NoMemory,
             },

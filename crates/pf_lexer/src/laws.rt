@@ -10,7 +10,6 @@ ghost use Rattle.pf_lexer.specs.Outages.{LeadsWithout, OpensWithout};
 ghost use Rattle.pf_lexer.specs.ReadSoFar.{ReadSoFar};
 ghost use Rattle.pf_lexer.specs.Stages.{Stage, Standing, going};
 ghost use Rattle.pf_lexer.specs.Units.{Answer, Leads, Opens, start_in};
-ghost use Rattle.pf_lexer.specs.Words.{FoundHasBytes};
 ghost use Rattle.pf_lexer.specs.declared.deed.Statement.{Statement};
 
 use pf_token::{descents_end, next_is_one, next_stays_in, something_comes_next};
@@ -83,12 +82,6 @@ pub fn a_unit_has_statements()
     something_comes_next();
     descents_end();
 }
-
-/// Each word without quotes of a statement has at least one byte.
-pub fn statements_have_words()
-    ensures { (disk : Disk) (stage next : Stage) (reads later : ReadSoFar) (found : Option Statement) →
-        Leads disk stage reads (Ok found) next later → FoundHasBytes found }
-{}
 
 /// A unit ends, over each disk and wherever it stands.
 pub fn units_finish()

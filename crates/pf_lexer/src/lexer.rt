@@ -1,21 +1,20 @@
 //! The statements of a unit, one after the other: a file, with each include replaced by that file's statements, pf.conf(5).
 ghost use Rattle.std.specs.Prelude.{◌≡◌, ℕ, ◌*◌, ◌^◌, ◌<◌, ◌≤◌, None, Option, List, IfOk, IfErr, OnSome, length};
 ghost use Rattle.pf_source.specs.Told.{Told, file_of};
-ghost use Rattle.pf_lexer.specs.Calls.{AnswersNumbered, AsksAndReads, ComesAgain, IfAgain, IsGoing, IsTrueTo, IsNumbered, IsUnopened, StopsWith, failed_by, unread_from, unread_in};
+ghost use Rattle.pf_lexer.specs.Calls.{AnswersNumbered, AsksAndReads, ComesAgain, IfAgain, IsGoing, IsTrueTo, IsNumbered, IsUnopened, StopsWith, failed_by, unread_at_end, unread_from, unread_in};
 ghost use Rattle.pf_lexer.specs.Going.{stage_weight};
 ghost use Rattle.pf_lexer.specs.ReadSoFar.{ReadSoFar};
 ghost use Rattle.pf_lexer.specs.Reads.{number_of};
-ghost use Rattle.pf_lexer.specs.Stages.{Stage};
 ghost use Rattle.pf_lexer.specs.Units.{Begins, Handed, Leads, UnitOf};
 ghost use Rattle.pf_lexer.specs.Words.{FoundHasBytes};
 ghost use Rattle.pf_lexer.specs.declared.deed.Statement.{Statement};
 ghost use Rattle.pf_lexer.specs.declared.fault.LexFault.{LexFault};
 
 use crate::deed::Statement;
-use crate::fault::{LexFault, copy_text};
+use crate::fault::LexFault;
 use crate::reads::Reads;
 use crate::unit::{OpenUnit, open_file};
-use pf_base::{NoMemory, Text};
+use pf_base::{List, NoMemory, Text};
 use pf_source::Files;
 use pf_token::{Macros, next_is_one};
 use std::alloc::Global;
@@ -64,7 +63,7 @@ impl Lexer {
         ensures lighter { IfOk result (λ lexer. stage_weight lexer.stage reads.new ≤ 2 ^ 65 * reads.old.left) }
         ensures asks { AsksAndReads (unread_in result) (F.tells files.old) (F.tells files.new) reads.old reads.new }
     {
-        let asked = copy_text(alloc, name)?;
+        let asked = List::copy_of(alloc, name.items())?;
         let top = open_file(alloc, files, reads, asked)?;
         Ok(Lexer {
             unit: OpenUnit::new(alloc, macros, top),
@@ -137,8 +136,10 @@ fn read_on<F: Files>(
     reads: &mut Reads,
     lexer: Lexer,
 ) -> Result<UnitStatements, NoMemory>
-    requires { lexer.known ≤ length reads.old.names }
-    ensures { IfOk result (λ found. Told (F.tells files.old).held (λ held. Handed (file_of held) lexer.stage reads.old found.statements.items found.fault reads.new)) }
+    requires known { lexer.known ≤ length reads.old.names }
+    requires going { IsGoing lexer.stage }
+    ensures handed { IfOk result (λ found. Told (F.tells files.old).held (λ held. Handed (file_of held) lexer.stage reads.old found.statements.items found.fault reads.new)) }
+    ensures asks { IfOk result (λ found. AsksAndReads (unread_at_end found.fault) (F.tells files.old) (F.tells files.new) reads.old reads.new) }
 {
     let mut lexer = lexer;
     let mut statements = Vec::new(alloc);
@@ -163,7 +164,7 @@ fn read_on<F: Files>(
 }
 
 /// All statements of the unit whose first file has this name. Its contract is the law that the calls of a lexer hand out
-/// a unit's statements, and no others; when a read may fail is said by the calls themselves.
+/// a unit's statements, and no others. `CannotRead` comes only where a read of that file failed.
 pub fn read_unit<F: Files>(
     alloc: Global,
     files: &mut F,
@@ -176,6 +177,7 @@ pub fn read_unit<F: Files>(
         (others : List Statement) (fault : Option LexFault) (later : ReadSoFar) →
         UnitOf (file_of held) macros name.now reads.old others fault later → IsTrueTo (file_of held) found.fault → IsTrueTo (file_of held) fault →
         (found.statements.items ≡ others) × (found.fault ≡ fault) × (reads.new ≡ later))) }
+    ensures asks { IfOk result (λ found. AsksAndReads (unread_at_end found.fault) (F.tells files.old) (F.tells files.new) reads.old reads.new) }
 {
     next_is_one();
     match Lexer::begin(alloc, files, reads, name, macros) {

@@ -18,6 +18,3 @@ pub use fault::LexFault;
 pub use lexer::{Lexer, UnitStatements, read_unit};
 pub use pf_token::{Cause, Define, Fault, Macros, Token, TokenKind};
 pub use reads::{ReadFile, Reads, ReadsFault};
-
-#[cfg(test)]
-mod tests;

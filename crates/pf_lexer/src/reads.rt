@@ -7,7 +7,7 @@ ghost use Rattle.std.specs.Str.{bytes_eq};
 ghost use Rattle.pf_source.specs.Asks.{Asks};
 ghost use Rattle.pf_source.specs.Told.{Told, file_of};
 ghost use Rattle.pf_lexer.specs.declared.reads.ReadsFault.TheVariants.{NoMemory as no_memory};
-ghost use Rattle.pf_lexer.specs.Reads.{GoesOn, IfNamed, IfNumbered, IsLook, after_answer, look_up, number_of, read_limit, unread_of, with_name};
+ghost use Rattle.pf_lexer.specs.Reads.{GoesOn, IfNamed, IfNumbered, IsLook, after_answer, failed_read, look_up, number_of, read_limit, with_name};
 
 use indexmap::IndexSet;
 use pf_base::{List, NoMemory, Text};
@@ -61,10 +61,8 @@ impl Hash for FileName {
 fn copy_of(alloc: Global, name: &Text) -> Result<FileName, NoMemory>
     ensures { IfOk result (λ copy. copy ≡ name.now) }
 {
-    let bytes = Vec::from_slice(alloc, name.items())?;
-    Ok(FileName {
-        text: List::of(bytes),
-    })
+    let text = List::copy_of(alloc, name.items())?;
+    Ok(FileName { text })
 }
 
 // The number of the name, which is added last where it is new.
@@ -113,8 +111,8 @@ impl From<NoMemory> for ReadsFault {
     }
 }
 
-/// What one load has read: the names of its files, in the order in which they were first read, and how many bytes
-/// it may still read.
+/// The files of one load by name, each at the place of its first reading, which is its number; and how many bytes are
+/// left to be read.
 #[derive(Debug, Drop)]
 pub struct Reads {
     names: IndexSet<FileName>,
@@ -155,7 +153,7 @@ impl Reads {
         ensures named { IfNamed self.new.names name.now result }
         ensures grows { GoesOn self.old.names self.new.names }
         ensures within { IfOk result (λ file. length file.text ≤ read_limit self.old.left) }
-        ensures asks { Asks (unread_of name.now result) (F.tells files.old) (F.tells files.new) }
+        ensures asks { Asks (failed_read name.now result) (F.tells files.old) (F.tells files.new) }
     {
         let key = copy_of(alloc, name)?;
         let limit = MOST.min(self.left);

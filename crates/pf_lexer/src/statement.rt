@@ -1,8 +1,6 @@
 //! Where statements end, pf.conf(5): at newlines outside list braces, and where an anchor's body begins.
-ghost use Rattle.std.specs.Prelude.{◌≡◌, ℕ, ◌+◌, ◌-◌, ◌<◌, ◌≤◌, ◌++◌, ◌∷◌, [], List, false, true, ◌&&◌, ◌^◌, IfOk, OnOk, OnErr, length};
-ghost use Rattle.pf_token.specs.declared.cell.Cell.{Cell};
+ghost use Rattle.std.specs.Prelude.{◌≡◌, ◌+◌, ◌-◌, ◌<◌, ◌≤◌, ◌++◌, ◌∷◌, [], false, true, ◌&&◌, ◌^◌, IfOk, OnOk, OnErr, length};
 ghost use Rattle.pf_token.specs.Macros.{value_of};
-ghost use Rattle.pf_token.specs.Pieces.{Next};
 ghost use Rattle.pf_token.specs.Reading.{weight};
 ghost use Rattle.pf_lexer.specs.Statements.{begins_anchor, depth_after, depth_of, most_tokens, IsStatement};
 ghost use Rattle.pf_token.specs.Kinds.{is_newline, is_sign};
@@ -13,7 +11,7 @@ use pf_token::{Lexeme, Macros, Reader, next_lexeme};
 use std::alloc::Global;
 
 /// The most tokens of a statement.
-const MOST_TOKENS: usize = 16384;
+const MOST_TOKENS: usize = 16_384;
 
 /// What ends a statement.
 #[derive(Clone, Copy, Debug, PartialEq, Eq)]

@@ -12,9 +12,9 @@ ghost use Rattle.pf_lexer.specs.Words.{FoundHasBytes, TurnHasBytes};
 
 use crate::deed::{Deed, Statement, take_statement};
 use crate::failure::Failure;
-use crate::fault::{LexFault, copy_text};
+use crate::fault::LexFault;
 use crate::reads::{Reads, ReadsFault};
-use pf_base::{NoMemory, Place, Text};
+use pf_base::{List, NoMemory, Place, Text};
 use pf_source::Files;
 use pf_token::{Macros, Reader};
 use std::alloc::Global;
@@ -137,7 +137,7 @@ impl OpenUnit {
         ensures places { IfErr result (λ failure. IsNumbered (length reads.new.names) failure.fault) }
         ensures lighter { OnOk result (weight self.new.top + 2 ^ 64 * reads.new.left ≤ 2 ^ 64 * reads.old.left) }
     {
-        let copy = copy_text(alloc, &name)?;
+        let copy = List::copy_of(alloc, name.items())?;
         match open_file(alloc, files, reads, name) {
             Ok(file) => {
                 self.enter(file)?;

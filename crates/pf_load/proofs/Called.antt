@@ -1,6 +1,6 @@
 -- The name of a body, or of a file's anchor, leads below the ruleset in which it stands.
-use Rattle.std.proofs.Common.{◌≡◌, ℕ, zero, suc, ◌+◌, ◌*◌, ◌<◌, Bool, true, false, not, List, [], ◌∷◌, ◌++◌, length, drop, take, Option, Some, None, Result, Ok, Err, refl, sym, ap, ◌∙◌, subst, arith}
-use Rattle.std.specs.Prelude.{◌&&◌, ◌-◌, ◌==◌, nat_le, nat_lt, codes, if◌then◌else◌}
+use Rattle.std.proofs.Common.{◌≡◌, ℕ, zero, suc, ◌+◌, ◌*◌, ◌<◌, Bool, true, false, List, [], ◌∷◌, ◌++◌, length, drop, take, Option, Some, None, Result, Ok, Err, refl, sym, ap, ◌∙◌, subst, arith}
+use Rattle.std.specs.Prelude.{◌-◌, ◌==◌, nat_le, nat_lt, codes, if◌then◌else◌}
 use Rattle.std.proofs.lemmas.Bool.{eqb-true}
 use Rattle.std.specs.List.{slice_split}
 use Rattle.std.specs.Str.{bytes_eq}
@@ -28,10 +28,6 @@ HasName call = names_one call ≡ true → call.path ≡ [] → ⊥
 abbrev ReadsWell : Result Call PathFault → Type 0
 ReadsWell (Ok call) = HasName call
 ReadsWell (Err fault) = Unit {0}
-
-and_no : (b : Bool) → (b && not true) ≡ true → ⊥
-and_no true h = absurd cc
-and_no false h = absurd cc
 
 children_well : (names : Result (List (List ℕ)) PathFault) (base : Result Base PathFault) → ReadsWell (call_from names base true)
 children_well (Err fault) base = tt

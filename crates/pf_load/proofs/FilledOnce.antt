@@ -36,7 +36,7 @@ use Rattle.pf_shelf.specs.declared.decl.TableDecl.{TableDecl}
 use Rattle.pf_source.specs.Disk.{Disk}
 use Rattle.pf_token.specs.Macros.{Table as Macros, values_of}
 use Rattle.pf_token.specs.declared.token.Token.{Token}
-use Rattle.pf_load.specs.Anchors.{awaiting, call_of, call_or_none, entered, load_fault, named_call, no_call, reach_fault, reach_of}
+use Rattle.pf_load.specs.Anchors.{awaiting, call_of, call_of_rules, entered, load_fault, named_call, no_call, reach_fault, reach_of}
 use Rattle.pf_load.specs.Load.{AtEnd, Begins, GoesOn, Loads, LoadsOn, Outcome, Turn, Turns, begun, ends, further, goes_on, outcome_of, over, told_of, turn_of, unit_at, unopened}
 use Rattle.pf_load.specs.Paths.{FillsOnce}
 use Rattle.pf_load.specs.Statements.{Comes, DeclComes, DeclStands, Expanded, RuleComes, SaidComes, StatementComes, TableStands, close_in, fault_in, in_main, is_declared, is_said, late_at, no_decl, no_rule, queue_at, rules_in, stop_of, table_laid, unless, way_of}
@@ -106,7 +106,7 @@ module _ (at : List (List ℕ)) where
     apart_said said place heads.Match e = apart_expanded said place no_call Here false (leads_nowhere draft) e
     apart_said said place heads.Antispoof e = apart_expanded said place no_call Here false (leads_nowhere draft) e
     apart_said said place (heads.Anchor name body) e =
-        apart_expanded said place (call_or_none (call_of draft name)) (reach_of draft body (call_of draft name)) (is_none name) (anchor_leads draft body name) e
+        apart_expanded said place (call_of_rules (call_of draft name)) (reach_of draft body (call_of draft name)) (is_none name) (anchor_leads draft body name) e
     apart_said said place (heads.LoadAnchor name file) e =
         let reach : Reach = reach_of draft true (named_call name) in
         subst (Apart at) (unless_ok (first_of (load_fault draft place) (reach_fault reach place)) (awaiting draft reach file) new e) (apart_awaiting draft reach file (load_leads draft name) h)

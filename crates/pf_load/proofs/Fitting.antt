@@ -37,7 +37,7 @@ use Rattle.pf_plan.specs.declared.plan.Part.{Part}
 use Rattle.pf_rule.specs.declared.rule.Rule.{Rule}
 use Rattle.pf_shelf.specs.declared.decl.TableDecl.{TableDecl}
 use Rattle.pf_token.specs.declared.token.Token.{Token}
-use Rattle.pf_load.specs.Anchors.{awaiting, call_of, call_or_none, entered, load_fault, named_call, no_call, reach_fault, reach_of}
+use Rattle.pf_load.specs.Anchors.{awaiting, call_of, call_of_rules, entered, load_fault, named_call, no_call, reach_fault, reach_of}
 use Rattle.pf_load.specs.Fit.{IsDraftFit, IsNextFit, StaysFit, are_written, is_filling_written, is_part_fit, is_plan_fit, is_ruleset_written}
 use Rattle.pf_load.specs.Answers.{next_of}
 use Rattle.pf_load.specs.Statements.{Expanded, RuleComes, SaidComes, close_in, defaults_of, fault_in, is_said, late_at, load_laid, no_rule, order_of, rules_in, rules_laid, stop_of, unless}
@@ -168,7 +168,7 @@ module _ (law : RulesWritten) (facts : HostFacts) (draft new : Draft) (fit : IsD
   fit_said said place (heads.Block kind) h = fit_expanded said place no_call Here false h
   fit_said said place heads.Match h = fit_expanded said place no_call Here false h
   fit_said said place heads.Antispoof h = fit_expanded said place no_call Here false h
-  fit_said said place (heads.Anchor name body) h = fit_expanded said place (call_or_none (call_of draft name)) (reach_of draft body (call_of draft name)) (is_none name) h
+  fit_said said place (heads.Anchor name body) h = fit_expanded said place (call_of_rules (call_of draft name)) (reach_of draft body (call_of draft name)) (is_none name) h
   fit_said said place (heads.LoadAnchor name file) h =
       subst IsDraftFit (unless_ok (first_of (load_fault draft place) (reach_fault (reach_of draft true (named_call name)) place)) (awaiting draft (reach_of draft true (named_call name)) file) new h)
       (fit_awaiting draft (reach_of draft true (named_call name)) file fit)

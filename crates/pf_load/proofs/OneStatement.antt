@@ -36,7 +36,7 @@ use Rattle.pf_syntax.specs.Grammar.{Grammar}
 use Rattle.pf_syntax.specs.Symbols.{Symbols, symbols}
 use Rattle.pf_syntax.specs.declared.fault.FormFault.{FormFault}
 use Rattle.pf_token.specs.declared.token.Token.{Token}
-use Rattle.pf_load.specs.Anchors.{call_of, call_or_none, no_call, reach_of}
+use Rattle.pf_load.specs.Anchors.{call_of, call_of_rules, no_call, reach_of}
 use Rattle.pf_load.specs.Statements.{Comes, DeclComes, DeclStands, Expanded, Is, RuleComes, SaidComes, StatementComes, TableStands, Tabled, is_declared, is_said, no_decl, no_rule, order_of, defaults_of, rules_laid, stop_of, table_laid, way_of}
 use Rattle.pf_load.specs.declared.reach.Reach.{Reach}
 use Rattle.pf_load.specs.declared.reach.Reach.TheVariants.{Here}
@@ -78,7 +78,7 @@ module _ (decl_one : DeclOne) (expands_one : ExpandsOne) (table_one : TableOne) 
   one_said facts draft said place heads.Match a b h k = one_expanded facts draft said place no_call Here false a b h k
   one_said facts draft said place heads.Antispoof a b h k = one_expanded facts draft said place no_call Here false a b h k
   one_said facts draft said place (heads.Anchor name body) a b h k =
-      one_expanded facts draft said place (call_or_none (call_of draft name)) (reach_of draft body (call_of draft name)) (is_none name) a b h k
+      one_expanded facts draft said place (call_of_rules (call_of draft name)) (reach_of draft body (call_of draft name)) (is_none name) a b h k
   one_said facts draft said place (heads.LoadAnchor name file) a b h k = h ∙ sym k
 
   one_rule : (facts : HostFacts) (tokens : List Token) (body : Bool) (draft : Draft) (a b : Result Draft Stop) → RuleComes facts tokens body draft a → RuleComes facts tokens body draft b → a ≡ b

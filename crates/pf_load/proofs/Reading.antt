@@ -8,10 +8,8 @@ use Rattle.pf_decl.specs.Decls.{IsDecl, RefusesDecl, place_of}
 use Rattle.pf_decl.specs.declared.form.Decl.{Decl}
 use Rattle.pf_decl.specs.declared.form.Decl.TheVariants as decls
 use Rattle.pf_decl.specs.declared.form.TableForm.{TableForm}
-use Rattle.pf_expand.specs.Expansion.{HasWords}
 use Rattle.pf_form.specs.declared.form.Draft.{Draft as Said}
-use Rattle.pf_form.specs.declared.form.RuleForm.{RuleForm}
-use Rattle.pf_grammar.specs.Bytes.{HasBytes, symbol_has_bytes, symbols_have_bytes}
+use Rattle.pf_grammar.specs.Bytes.{symbol_has_bytes, symbols_have_bytes}
 use Rattle.pf_grammar.specs.Forms.{HasForm, IsDraft, RefusesDraft}
 use Rattle.pf_grammar.specs.Late.{late_of}
 use Rattle.pf_host.specs.Facts.{HostFacts}
@@ -40,17 +38,6 @@ use Rattle.pf_load.specs.Statements.{Comes, DeclComes, DeclStands, RuleComes, Sa
 use Rattle.pf_load.specs.declared.way.Way.{Way}
 use Rattle.pf_load.specs.declared.way.Way.TheVariants.{Nothing, Rules}
 
--- the words of a form have bytes, as the grammar and as the expansion say it
-pub form_words : (form : RuleForm) → HasBytes form → HasWords form
-form_words form h = record {
-  sources = h.source_words;
-  source_ports = h.source_port_words;
-  targets = h.target_words;
-  target_ports = h.target_port_words;
-  users = h.user_words;
-  groups = h.group_words;
-  nat = h.nat_words;
-  rdr = h.rdr_words;
 }
 
 -- an answer of one meaning has another that follows from it

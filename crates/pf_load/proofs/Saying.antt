@@ -47,7 +47,7 @@ use Rattle.pf_syntax.specs.Symbols.{Symbol, Symbols, symbols}
 use Rattle.pf_syntax.specs.declared.fault.FormFault.{FormFault}
 use Rattle.pf_syntax.specs.declared.fault.FormFault.TheVariants as outside
 use Rattle.pf_token.specs.declared.token.Token.{Token}
-use Rattle.pf_load.specs.Anchors.{awaiting, call_of, call_or_none, entered, load_fault, named_call, no_call, reach_fault, reach_of}
+use Rattle.pf_load.specs.Anchors.{awaiting, call_of, call_of_rules, entered, load_fault, named_call, no_call, reach_fault, reach_of}
 use Rattle.pf_load.specs.Statements.{Comes, DeclComes, DeclStands, Expanded, RuleComes, SaidComes, StatementComes, TableStands, close_in, defaults_of, fault_in, in_main, is_declared, is_said, late_at, no_decl, no_rule, order_of, queue_at, rules_in, rules_laid, stop_at, stop_of, table_laid, unless, way_of}
 use Rattle.pf_load.specs.declared.reach.Reach.{Reach}
 use Rattle.pf_load.specs.declared.reach.Reach.TheVariants.{Nowhere, Here, Into}
@@ -198,7 +198,7 @@ module _ (laws : SayingLaws) where
   said_somehow facts draft said place heads.Match reads h le none = expanded_somehow facts draft said place no_call Here false reads h le none
   said_somehow facts draft said place heads.Antispoof reads h le none = expanded_somehow facts draft said place no_call Here false reads h le none
   said_somehow facts draft said place (heads.Anchor name body) reads h le none =
-      expanded_somehow facts draft said place (call_or_none (call_of draft name)) (reach_of draft body (call_of draft name)) (is_none name) reads h le none
+      expanded_somehow facts draft said place (call_of_rules (call_of draft name)) (reach_of draft body (call_of draft name)) (is_none name) reads h le none
   said_somehow facts draft said place (heads.LoadAnchor name file) reads h le none =
       let reach : Reach = reach_of draft true (named_call name) in
       let fault : Option Fault = first_of (load_fault draft place) (reach_fault reach place) in

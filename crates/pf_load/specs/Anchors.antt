@@ -18,7 +18,7 @@ use Rattle.pf_fault.specs.declared.fault.Fault.{Fault}
 use Rattle.pf_load.specs.declared.reach.Reach.{Reach}
 use Rattle.pf_load.specs.declared.reach.Reach.TheVariants.{Nowhere, Here, Into}
 
--- only anchor rules have a call
+-- what stands as the call of rules that call nothing: no anchor rule has it
 abbrev pub no_call : Call
 no_call = record { base = Below; path = []; children = false }
 
@@ -40,9 +40,9 @@ call_of draft None = Some (nameless_call (draft.here.nameless + 1))
 call_of draft (Some text) = named_call text
 
 -- the rules of a statement have its call; where it has none, it is refused
-abbrev pub call_or_none : Option Call → Call
-call_or_none None = no_call
-call_or_none (Some call) = call
+abbrev pub call_of_rules : Option Call → Call
+call_of_rules None = no_call
+call_of_rules (Some call) = call
 
 -- a path of no more than 8 names; the `*` of a wildcard counts as one
 abbrev pub has_room : Bool → Option (List (List ℕ)) → Bool

@@ -41,7 +41,7 @@ use Rattle.pf_syntax.specs.declared.fault.FormFault.{FormFault}
 use Rattle.pf_syntax.specs.declared.fault.FormFault.TheVariants as outside
 use Rattle.pf_token.specs.Kinds.{is_sign_kind, is_word_kind}
 use Rattle.pf_token.specs.declared.token.Token.{Token}
-use Rattle.pf_load.specs.Anchors.{awaiting, call_of, call_or_none, entered, load_fault, named_call, no_call, reach_fault, reach_of}
+use Rattle.pf_load.specs.Anchors.{awaiting, call_of, call_of_rules, entered, load_fault, named_call, no_call, reach_fault, reach_of}
 use Rattle.pf_load.specs.declared.reach.Reach.{Reach}
 use Rattle.pf_load.specs.declared.reach.Reach.TheVariants.{Here}
 use Rattle.pf_load.specs.declared.way.Way.{Way}
@@ -131,7 +131,7 @@ Plain facts draft said place result = Expanded facts draft said place no_call He
 -- an anchor rule, with a body behind it or not
 abbrev pub Anchored : HostFacts → Draft → Said → Place → Option (List ℕ) → Bool → Result Draft Stop → Type 0
 Anchored facts draft said place name body result =
-    Expanded facts draft said place (call_or_none (call_of draft name)) (reach_of draft body (call_of draft name)) (is_none name) result
+    Expanded facts draft said place (call_of_rules (call_of draft name)) (reach_of draft body (call_of draft name)) (is_none name) result
 
 -- the load of a file into an anchor: it makes no rule, and the file is read once its unit has ended
 abbrev pub load_laid : Draft → Place → Reach → List ℕ → Result Draft Stop

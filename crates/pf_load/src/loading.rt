@@ -336,12 +336,9 @@ fn load_units<F: Files>(
     }
 }
 
-/// The plan of a file over the files that it includes, those that it loads into anchors and the files of its tables, with these facts
-/// of the host (pfctl(8), -f): its rulesets as written, in the order in which they were begun, with their tables, and settings and
-/// queues. The units are read one after the other, in the order in which their statements were met. The first faulty statement
-/// decides; of its faults the one whose kind stands first in the order of [`FaultKind`], with the name of its file. At the end of
-/// each unit come `UnclosedBody`, faults of the queues, and `TooManyRules` of more than 16,384 in one ruleset. `CannotRead` comes
-/// only where the files' count of faults rose. No part has more than 16,384 rules, and none of them tests an automatic table.
+/// The plan of a file with all that it includes, loads into anchors and reads into tables (pfctl(8), -f); or the fault of the
+/// first statement or end of a unit that has one, the first in the order of [`FaultKind`], with the name of its file.
+/// `CannotRead` comes only where the files' count of faults rose. No part has over 16,384 rules or tests an automatic table.
 pub fn load<F: Files>(
     alloc: Global,
     files: &mut F,

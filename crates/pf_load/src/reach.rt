@@ -21,7 +21,7 @@ pub enum Reach {
     Into(Path),
 }
 
-/// Only anchor rules have a call.
+/// What stands as the call of rules that call nothing: no anchor rule has it, and no other rule's call is looked at.
 pub(crate) fn no_call() -> Call
     ensures { result ≡ says.no_call }
 {
@@ -75,8 +75,8 @@ pub(crate) fn call_of(
 }
 
 /// The call of a statement's rules.
-pub(crate) fn call_or_none(call: &Option<Call>) -> Call
-    ensures { result ≡ says.call_or_none call.now }
+pub(crate) fn call_of_rules(call: &Option<Call>) -> Call
+    ensures { result ≡ says.call_of_rules call.now }
 {
     match call {
         Some(call) => *call,

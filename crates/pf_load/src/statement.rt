@@ -212,7 +212,7 @@ fn take_anchor(
 {
     let called = reach::call_of(alloc, &draft, name)?;
     let reach = reach::reach_of(&draft, body, &called);
-    let call = reach::call_or_none(&called);
+    let call = reach::call_of_rules(&called);
     take_rules(
         alloc,
         facts,
@@ -246,7 +246,7 @@ fn take_load(
     ) {
         Some(fault) => Err(Stop::Fault(fault)),
         None => {
-            let file = List::of(Vec::from_slice(alloc, file.items())?);
+            let file = List::copy_of(alloc, file.items())?;
             let draft = reach::awaiting(draft, &reach, file)?;
             Ok(draft)
         }

@@ -18,6 +18,3 @@ pub use words::{
     flag_bit, flag_bits, flags_of, icmp_number, icmp_of, proto_name, proto_number, proto_of,
     put_flags,
 };
-
-#[cfg(test)]
-mod tests;

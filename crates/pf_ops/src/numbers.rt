@@ -2,7 +2,7 @@
 ghost use Rattle.std.specs.Prelude.{◌≡◌, ℕ, ◌≤◌, ◌&&◌, ◌||◌, nat_le, nat_lt};
 ghost use Rattle.pf_ops.specs.Numbers.{IsKept, covers, encloses, in_interval, in_numbers, lies_in};
 ghost use Rattle.pf_ops.specs.Equal.{intervals, sets};
-ghost use Rattle.pf_ops.specs.Operator.{in_op, IsOperator};
+ghost use Rattle.pf_ops.specs.Operator.{IsOperator};
 
 use crate::operator::OpKind;
 use pf_base::Same;

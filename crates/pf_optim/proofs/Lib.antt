@@ -2,7 +2,6 @@ pub mod Lists
 pub mod Alike
 pub mod Keeping
 pub mod Skipping
-pub mod Lines
 pub mod SaidRows
 pub mod Spans
 pub mod Forming

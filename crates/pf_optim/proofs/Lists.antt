@@ -61,10 +61,6 @@ pub all_right : {A : Type 0} (P : A → Type 0) (xs ys : List A) → All P (xs +
 all_right P [] ys h k d low = h k d low
 all_right P (x ∷ xs) ys h k d low = all_right P xs ys (λ i e less. h (suc i) e (omega arith)) k d low
 
-pub true_all : {A : Type 0} (test : A → Bool) → ((x : A) → test x ≡ true) → (xs : List A) → list_all test xs ≡ true
-true_all test e [] = refl
-true_all test e (x ∷ xs) = and_from (test x) (list_all test xs) (e x) (true_all test e xs)
-
 pub none_all : {A : Type 0} (xs : List A) → list_all (λ x. false) xs ≡ true → xs ≡ []
 none_all [] h = refl
 none_all (x ∷ xs) h = absurd (false≢true h)

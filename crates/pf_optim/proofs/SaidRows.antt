@@ -1,5 +1,5 @@
 -- Lines that say rows.
-use Rattle.std.proofs.Common.{◌≡◌, ℕ, cond, Bool, true, false, not, ◌||◌, List, [], ◌∷◌, ◌++◌, Option, Some, None, append-nil, refl, sym, ap, ◌∙◌, subst}
+use Rattle.std.proofs.Common.{◌≡◌, ℕ, cond, Bool, true, false, not, ◌||◌, List, [], ◌∷◌, ◌++◌, Option, Some, None, refl, sym, ap, ◌∙◌, subst}
 use Rattle.std.proofs.lemmas.Bool.{false≢true}
 use Rattle.std.proofs.lemmas.List.{map-append}
 use Rattle.std.proofs.Common.{Bor, Result, Ok, Err, is_some, inr}
@@ -36,11 +36,6 @@ said_more : (before : List (List ℕ)) (line : List ℕ) (b : Bool) → is_passe
 said_more before line b e =
     filter_append (λ line. not (is_passed_over line)) before (line ∷ [])
     ∙ ap (λ (t : Bool). said_lines before ++ cond (not t) (line ∷ []) []) e
-
-pub passed_over : (before : List (List ℕ)) (line : List ℕ) (rows : List Row) → is_passed_over line ≡ true → SayRows before rows → SayRows (before ++ line ∷ []) rows
-passed_over before line rows e say =
-    let P : List (List ℕ) → Type 0 = λ t. AllZip Says t rows in
-    record { said = subst P (sym (said_more before line true e ∙ append-nil (said_lines before))) say.said; apart = say.apart }
 
 -- a row more, about what no row before it is about
 pub either : (a b : Bool) → (a || b) ≡ false → (a ≡ false) × (b ≡ false)

@@ -42,8 +42,7 @@ pub(crate) fn optimised(
 fn written(alloc: Global, rules: &[Rule]) -> Result<Form, NoMemory>
     ensures { IfOk result (λ form. shown form ≡ record { rules = rules.now; tables = [] }) }
 {
-    let mut same = List::new(alloc);
-    same.append_copy(rules)?;
+    let same = List::copy_of(alloc, rules)?;
     Ok(Form {
         rules: same,
         tables: List::new(alloc),

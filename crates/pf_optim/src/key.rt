@@ -1,5 +1,4 @@
 //! The rules of which a profile tells.
-ghost use Rattle.std.specs.Prelude.{fold};
 ghost use Rattle.std.specs.Cmp.{partial_equiv_from_equiv};
 ghost use Rattle.pf_optim.specs.Keys.{key_alike, key_input, keys};
 ghost use Rattle.pf_rule.specs.FieldHash.{equality_laws};

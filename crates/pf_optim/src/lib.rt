@@ -25,6 +25,3 @@ pub use profile::Profile;
 pub use reading::read_profile;
 pub use rows::Row;
 pub use ruleset::{Ruleset, optimise};
-
-#[cfg(test)]
-mod tests;

@@ -1,6 +1,6 @@
 //! Reads a profile.
-ghost use Rattle.std.specs.Prelude.{◌≡◌, ◌∷◌, ◌++◌, ◌<◌, [], length, IfErr, IfNone, IfOk, IfSome};
-ghost use Rattle.pf_base.specs.Text.{fields_of, lines_of};
+ghost use Rattle.std.specs.Prelude.{◌≡◌, ◌∷◌, ◌<◌, [], IfErr, IfNone, IfOk, IfSome};
+ghost use Rattle.pf_base.specs.Text.{fields_of};
 ghost use Rattle.pf_optim.specs.Profile.{IsFaultAt, IsProfileText, Says, TellOf, is_passed_over};
 ghost use Rattle.pf_optim.specs.ProfileSteps.{IfLine, NoWords, SaysNothing, TakesOr, TakesRowOr, TellNothing, rows_of};
 
@@ -10,7 +10,7 @@ use crate::profile::Profile;
 use crate::rows::Row;
 use indexmap::IndexMap;
 use pf_base::Path;
-use pf_base::text::{decimal, split_field, split_line};
+use pf_base::text::{decimal, next_line, split_field};
 use std::alloc::Global;
 
 /// Reads a profile: lines of a path, a place and a count between single spaces, where empty lines and lines that begin
@@ -31,24 +31,6 @@ pub fn read_profile(alloc: Global, text: &[u8]) -> Result<Profile, ProfileFault>
         rest = behind;
     }
     Ok(Profile { counts })
-}
-
-// The first line, and the text behind it; None where no line is left.
-fn next_line(text: &[u8]) -> Option<(&[u8], &[u8])>
-    ensures line { IfSome result (λ cut. lines_of text.now ≡ cut.0.now ∷ lines_of cut.1.now) }
-    ensures shorter { IfSome result (λ cut. length cut.1.now < length text.now) }
-    ensures none { IfNone result (lines_of text.now ≡ []) }
-{
-    match split_line(text) {
-        Some((line, behind)) => Some((line, behind)),
-        None => {
-            if text.is_empty() {
-                None
-            } else {
-                Some((text, &[]))
-            }
-        }
-    }
 }
 
 // Takes a line: it is passed over, or its row is added.

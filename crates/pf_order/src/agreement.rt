@@ -1,5 +1,5 @@
 //! The gain of an order of rules.
-ghost use Rattle.std.specs.Prelude.{◌≡◌, ◌≤◌, ◌<◌, ◌^◌, List, [], ◌∷◌, Bool, length, count_by};
+ghost use Rattle.std.specs.Prelude.{◌≡◌, ◌≤◌, ◌<◌, ◌^◌, [], length, count_by};
 ghost use Rattle.pf_order.specs.Order.{agreements, first_agreements, gain};
 
 use pf_base::Same;

@@ -1,5 +1,5 @@
 //! The blocks of a ruleset.
-ghost use Rattle.std.specs.Prelude.{◌≡◌, ◌+◌, ◌<◌, ◌^◌, length, drop, reverse, IfOk, OnOk};
+ghost use Rattle.std.specs.Prelude.{◌≡◌, ◌+◌, ◌<◌, ◌^◌, length, reverse, IfOk, OnOk};
 ghost use Rattle.pf_order.specs.Blocks.{blocks_of, has_limit, is_barrier, joins, spans_from};
 ghost use Rattle.pf_order.specs.BlockSteps.{ends_block, with_place};
 

@@ -15,6 +15,3 @@ pub use block::{Span, blocks};
 pub use laws::{orders_hold_the_same_rules, runs_are_the_longest, the_most_used_first_cost_least};
 pub use profile::order_profile;
 pub use rank::order_gain;
-
-#[cfg(test)]
-mod tests;

@@ -13,10 +13,9 @@ use pf_base::{List, NoMemory};
 use pf_rule::{FieldValue, Rule};
 use std::alloc::Global;
 
-/// The rules of a block, or of any list, in an order in which neighbours agree in more fields, and as they are where the sorted
-/// order has no more gain (pf.conf(5), "set ruleset-optimization": rules are re-ordered to improve evaluation performance).
-/// They are sorted field by field, those of the fewest distinct values first, and in each by the places at which its values
-/// first appear.
+/// The rules of a block sorted field by field, first by those of the fewest distinct values, and in each by where its values
+/// first appear; left as they are where neighbours wouldn't agree in more fields then (pf.conf(5), "set ruleset-optimization":
+/// rules are re-ordered to improve evaluation performance).
 pub fn order_gain(alloc: Global, rules: &[Rule]) -> Result<List<Rule>, NoMemory>
     requires { length rules.now < 2 ^ 32 }
     ensures { IfOk result (λ ordered. ordered ≡ gain_order rules.now) }
@@ -25,15 +24,7 @@ pub fn order_gain(alloc: Global, rules: &[Rule]) -> Result<List<Rule>, NoMemory>
     if gain(rules) < gain(sorted.items()) {
         return Ok(sorted);
     }
-    let same = copied(alloc, rules)?;
-    Ok(same)
-}
-
-fn copied(alloc: Global, rules: &[Rule]) -> Result<List<Rule>, NoMemory>
-    ensures { IfOk result (λ same. same ≡ rules.now) }
-{
-    let mut same = List::new(alloc);
-    same.append_copy(rules)?;
+    let same = List::copy_of(alloc, rules)?;
     Ok(same)
 }
 

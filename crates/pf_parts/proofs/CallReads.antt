@@ -1,11 +1,10 @@
 -- What is known while the text of a call is read.
 use Rattle.std.proofs.Common.{◌≡◌, ℕ, zero, suc, ◌+◌, ◌*◌, ◌<◌, ◌≤◌, ◌^◌, Bool, true, false, not, cond, nat_lt, Option, Some, None, Ok, Err, List, [], ◌∷◌, ◌++◌, length, take, drop, codes, refl, sym, ap, ◌∙◌, subst, ⊎_elim, ◌⊎◌, inl, inr, arith}
-use Rattle.std.specs.List.{join_with_byte, onto_first, position, position_or_len, slice_split}
+use Rattle.std.specs.List.{onto_first, position, position_or_len, slice_split}
 use Rattle.std.specs.Option.{option_or, option_map}
 use Rattle.std.specs.Str.{bytes_eq}
-use Rattle.std.proofs.lemmas.Bool.{cases_Bool, cond-false, false≢true, ltb-true}
+use Rattle.std.proofs.lemmas.Bool.{cond-false, ltb-true}
 use Rattle.std.proofs.lemmas.List.{take-append-drop}
-use Rattle.std.proofs.lemmas.List.Splits.{join_with_byte-slice_split}
 use Rattle.std.proofs.lemmas.Slice.Eq.{bytes_eq-Decides}
 use Rattle.pf_base.specs.declared.path_fault.PathFault.{PathFault}
 use Rattle.pf_base.specs.declared.path_fault.PathFault.TheVariants.{Empty, BadByte, Reserved, TooLong, TooDeep}
@@ -219,20 +218,3 @@ up_last text rest n so last =
     let whole : rest ≡ codes ".." = (bytes_eq-Decides rest (codes "..")).0 last in
     let e : suc n ≡ n + 1 = omega arith in
     so ∙ ap (λ t. climb n ++ slice_split is_slash t) whole ∙ sym (climb_more n []) ∙ ap (λ k. climb k ++ []) e
-
--- what doesn't go up
-up_front : (parts : List (List ℕ)) (rest : List ℕ) → join_with_byte 47 (codes ".." ∷ parts) ≡ rest → bytes_eq (take 3 rest) (codes "../") ≡ false → bytes_eq rest (codes "..") ≡ false → ⊥
-up_front [] rest joined front whole = false≢true (sym whole ∙ sym (ap (λ t. bytes_eq t (codes "..")) joined))
-up_front (part ∷ parts) rest joined front whole = false≢true (sym front ∙ sym (ap (λ t. bytes_eq (take 3 t) (codes "../")) joined))
-
-no_up : (parts : List (List ℕ)) (rest : List ℕ) → join_with_byte 47 parts ≡ rest → bytes_eq (take 3 rest) (codes "../") ≡ false → bytes_eq rest (codes "..") ≡ false → ups parts ≡ 0
-no_up [] rest joined front whole = refl
-no_up (part ∷ parts) rest joined front whole =
-    ⊎_elim
-    (λ yes. let is = (bytes_eq-Decides part (codes "..")).0 yes in
-    absurd (up_front parts rest (ap (λ p. join_with_byte 47 (p ∷ parts)) (sym is) ∙ joined) front whole))
-    (λ no. cond-false _ _ _ no)
-    (cases_Bool (bytes_eq part (codes "..")))
-
-pub no_up_left : (rest : List ℕ) → bytes_eq (take 3 rest) (codes "../") ≡ false → bytes_eq rest (codes "..") ≡ false → ups (slice_split is_slash rest) ≡ 0
-no_up_left rest front whole = no_up (slice_split is_slash rest) rest (join_with_byte-slice_split 47 rest) front whole

@@ -28,10 +28,9 @@ pub struct Call {
 }
 
 impl Call {
-    /// The call of a text: names with `/` between them, behind a first `/` from the main ruleset on, and behind
-    /// each `..` from one ruleset further up; `/*` at the end, `*` and `/*` call each ruleset right below. The
-    /// faults are those of [`Path::parse`] at the names, in its order, and then `TooDeep` where there are more
-    /// than eight `..`, with their number. A place is counted from the text's begin.
+    /// The call of a text (pf.conf(5), ANCHORS): names with `/` between them, from the main ruleset on behind a
+    /// first `/`, from one further up behind each `..`; a last `*` calls each ruleset right below. Faults are those
+    /// of [`Path::parse`], places counted from the text's begin; then `TooDeep` for the number of over eight `..`.
     pub fn parse(text: &[u8]) -> Result<Call, PathFault>
         ensures read { result ≡ read_call text.now }
         ensures grammar { (call : AnyCall) → (result ≡ Ok call) ↔ IsCallText call text.now }

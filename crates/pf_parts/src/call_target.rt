@@ -3,7 +3,7 @@ ghost use Rattle.std.specs.Prelude.{◌≡◌, ◌≤◌, length, take};
 ghost use Rattle.pf_parts.specs.CallTarget.{start_of, target_of};
 
 use crate::call::{Base, Call};
-use pf_base::{Name, Path};
+use pf_base::Path;
 
 // The path of the first names of a path.
 fn front_of(path: &Path, count: usize) -> Path

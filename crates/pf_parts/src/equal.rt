@@ -1,5 +1,4 @@
 //! Whether two parts of rules are one.
-ghost use Rattle.std.specs.Prelude.{◌≡◌};
 ghost use Rattle.pf_parts.specs.Equal.{bases, block_kinds, calls, directions, flushes, interface_tests, logs, options_of_states, overloads, prio_pairs, queue_pairs, rates, scrubs, states, tag_tests, tracks};
 
 use crate::block::BlockKind;

@@ -34,6 +34,3 @@ pub use params::{Log, Prios, Queues, Scrub};
 pub use state::{Flush, Overload, Rate, StateKind, StateOptions, Track};
 pub use state_text::put_state;
 pub use text::{put, put_name, put_named, put_number, put_numbered, put_quoted};
-
-#[cfg(test)]
-mod tests;

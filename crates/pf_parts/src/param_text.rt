@@ -1,15 +1,15 @@
 //! The texts of parameters (pf.conf(5), PARAMETERS and TRAFFIC NORMALISATION), each with a space before it.
 //! Without memory a front of the text may be appended.
-ghost use Rattle.std.specs.Prelude.{◌≡◌, ◌++◌, OnOk, codes, decimal, is_some, map};
+ghost use Rattle.std.specs.Prelude.{◌≡◌, ◌++◌, OnOk, codes, is_some, map};
 ghost use Rattle.std.specs.List.{list_any};
 ghost use Rattle.std.specs.Option.{option_map};
 ghost use Rattle.pf_parts.specs.Appending.{Extends};
 ghost use Rattle.pf_parts.specs.Items.{part_of};
 ghost use Rattle.pf_parts.specs.NameText.{name_text};
 ghost use Rattle.pf_parts.specs.ParamText.{label_text, log_parts, log_text, prio_text, queue_text, scrub_parts, scrub_text, tag_text};
-ghost use Rattle.pf_parts.specs.Parts.{spaced, with_number, with_pair, word_if};
+ghost use Rattle.pf_parts.specs.Parts.{spaced, with_number, word_if};
 
-use crate::item::{Item, number_item, put_in_brackets, word_item};
+use crate::item::{Item, put_in_brackets, word_item};
 use crate::params::{Log, Prios, Queues, Scrub};
 use crate::text::{put, put_named, put_numbered, put_quoted};
 use pf_base::{Name, NoMemory};

@@ -163,13 +163,6 @@ none_open : (draft : Draft) (outer : List Filling) → is_empty outer ≡ true �
 none_open draft [] none = refl
 none_open draft (filling ∷ outer) none = let zero_long : length (filling ∷ outer) ≡ 0 = eqb-true (length (filling ∷ outer)) 0 none in absurd (omega arith)
 
-pub closed_none : (draft : Draft) → is_in_body draft ≡ false → draft ≡ closed draft
-closed_none draft closed_all = sym (none_open draft draft.outer (not_false (is_empty draft.outer) closed_all))
-  where
-    not_false : (b : Bool) → not b ≡ false → b ≡ true
-    not_false true h = refl
-    not_false false h = sym h
-
 first_open : (draft : Draft) (outer : List Filling) (filling : Filling) → 0 < length outer → filling ≡ get_or outer 0 filling → closed_in draft outer ≡ record draft { here = with_inside filling draft.here; outer = drop 1 outer }
 first_open draft [] filling some is = absurd (omega arith)
 first_open draft (first ∷ outer) filling some is = ap (λ (f : Filling). record draft { here = with_inside f draft.here; outer = outer }) (sym is)

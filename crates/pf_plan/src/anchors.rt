@@ -1,5 +1,5 @@
 //! What anchors do to a draft (pf.conf(5), ANCHORS).
-ghost use Rattle.std.specs.Prelude.{◌≡◌, ◌<◌, ◌∷◌, [], ℕ, IfOk, IfSome, MatchOption, None, Some, false, length, option_map};
+ghost use Rattle.std.specs.Prelude.{◌≡◌, ◌<◌, ◌∷◌, [], ℕ, IfOk, MatchOption, None, Some, length};
 ghost use Rattle.pf_plan.specs.Anchors as says;
 ghost use Rattle.pf_plan.specs.Drafts as drafts;
 
@@ -102,7 +102,6 @@ fn with_inside(filling: Filling, body: Filling) -> Result<Filling, NoMemory>
 }
 
 impl Draft {
-    ghost use Rattle.std.specs.Prelude.{◌≤◌};
     ghost use Rattle.pf_plan.specs.Numbered.{PlacesWithin};
 
     /// Whether a body or a file of the load fills this ruleset. Takes no memory.

@@ -1,5 +1,5 @@
 //! A plan while it is made (pfctl(8), -f).
-ghost use Rattle.std.specs.Prelude.{◌≡◌, ◌++◌, ◌∷◌, [], ◌≤◌, length, IfOk, Some};
+ghost use Rattle.std.specs.Prelude.{◌≡◌, ◌++◌, ◌∷◌, [], ◌≤◌, IfOk, Some};
 ghost use Rattle.pf_plan.specs.Drafts as says;
 
 use crate::filled::FilledPaths;
@@ -11,7 +11,7 @@ use pf_rule::Rule;
 use pf_shelf::TableDecl;
 use std::alloc::Global;
 
-/// One rule more than a ruleset may have.
+/// The most rules that a ruleset keeps: one more than it may have, by which the end of its unit sees that it has too many.
 const ROOM: usize = 16_385;
 
 /// What `set block-policy` and `set state-policy` say at this place of a unit (pf.conf(5), OPTIONS).

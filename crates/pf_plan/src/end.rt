@@ -1,5 +1,5 @@
 //! The end of a unit, and the plan of a load.
-ghost use Rattle.std.specs.Prelude.{◌≡◌, ◌++◌, ◌∷◌, ◌<◌, ℕ, map, IfOk, IfSome};
+ghost use Rattle.std.specs.Prelude.{◌≡◌, ◌++◌, ◌<◌, ℕ, map, IfOk, IfSome};
 ghost use Rattle.pf_plan.specs.Ends as says;
 ghost use Rattle.pf_plan.specs.Ends.{HasEndFault};
 ghost use Rattle.pf_plan.specs.Numbered.{PlacesWithin};
@@ -11,7 +11,7 @@ use pf_decl::{OptionLine, QueueFault, Setting, check_queues};
 use pf_fault::Fault;
 use std::alloc::Global;
 
-/// The most rules of a ruleset.
+/// The most rules that a ruleset may have. Of those behind them one alone is kept, so a fault tells one more than these.
 const MOST_RULES: usize = 16_384;
 
 // A body that isn't closed.

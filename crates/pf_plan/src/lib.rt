@@ -16,6 +16,3 @@ pub use end::{end_fault, plan_of};
 pub use filled::FilledPaths;
 pub use laws::{drafts_stay_within, ends_come_to_something, ends_have_one_fault, ends_stay_within};
 pub use plan::{Part, Plan, Whole};
-
-#[cfg(test)]
-mod tests;

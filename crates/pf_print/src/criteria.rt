@@ -1,5 +1,5 @@
 //! The texts of what a rule tests (pf.conf(5), PARAMETERS).
-ghost use Rattle.std.specs.Prelude.{◌≡◌, ◌++◌, OnOk, codes, decimal};
+ghost use Rattle.std.specs.Prelude.{◌≡◌, ◌++◌, OnOk, codes};
 ghost use Rattle.std.specs.Option.{option_map};
 ghost use Rattle.pf_ops.specs.Words.{letters_of};
 ghost use Rattle.pf_parts.specs.Appending.{Extends};
@@ -14,9 +14,7 @@ use pf_ops::{IcmpType, Op32, TcpFlags, proto_name, put_flags};
 use pf_parts::{
     Direction, IfTest, StateKind, TagTest, put, put_log, put_named, put_numbered, put_tos,
 };
-use pf_rule::{Action, Criteria, Effect, Rule};
-
-const TCP: u8 = 6;
+use pf_rule::{Action, Criteria, Effect, Rule, TCP};
 
 fn put_direction(out: &mut Vec<u8>, direction: Option<Direction>) -> Result<(), NoMemory>
     ensures ok { OnOk result (out.new.items ≡ out.old.items ++ spaced (option_map says.direction_text direction)) }

@@ -5,7 +5,7 @@ ghost use Rattle.pf_parts.specs.Appending.{Extends};
 ghost use Rattle.pf_parts.specs.BlockText.{block_text};
 ghost use Rattle.pf_parts.specs.CallText.{call_text};
 ghost use Rattle.pf_parts.specs.NameText.{quoted};
-ghost use Rattle.pf_parts.specs.ParamText.{label_text, prio_text, queue_text, scrub_text, tag_text};
+ghost use Rattle.pf_parts.specs.ParamText.{prio_text, queue_text, scrub_text, tag_text};
 ghost use Rattle.pf_parts.specs.Parts.{spaced, with_number, word_if};
 ghost use Rattle.pf_record.specs.TranslationText.{nat_text, rdr_text};
 ghost use Rattle.pf_print.specs.RuleText as says;

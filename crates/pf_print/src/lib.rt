@@ -17,6 +17,3 @@ pub use option::put_option;
 pub use queue::put_queue;
 pub use rule::put_rule;
 pub use table::{put_entry, put_table};
-
-#[cfg(test)]
-mod tests;

@@ -1,12 +1,12 @@
 //! The texts of tests of numbers (pf.conf(5), PARAMETERS, `port`, `user`, `group`).
-ghost use Rattle.std.specs.Prelude.{◌≡◌, ℕ, ◌≤◌, ◌++◌, OnOk, decimal};
+ghost use Rattle.std.specs.Prelude.{◌≡◌, ◌++◌, OnOk, decimal};
 ghost use Rattle.pf_ops.specs.Numbers.{IsKept};
 ghost use Rattle.pf_parts.specs.Appending.{Extends};
 ghost use Rattle.pf_print.specs.SetText.{gap_text, interval_text, set_text, top_id, top_port};
 
 use pf_base::NoMemory;
 use pf_ops::{Interval, Numbers, Op16, Op32};
-use pf_parts::{put, put_number, put_numbered};
+use pf_parts::{put_number, put_numbered};
 
 // Two numbers and what stands between them.
 fn put_pair(out: &mut Vec<u8>, low: u32, between: &[u8], high: u32) -> Result<(), NoMemory>

@@ -3,7 +3,6 @@ ghost use Rattle.std.specs.Prelude.{◌≡◌, ◌∷◌, ◌++◌, OnErr, OnOk,
 ghost use Rattle.std.specs.List.{join_by};
 ghost use Rattle.pf_parts.specs.Appending.{Extends};
 ghost use Rattle.pf_parts.specs.Parts.{spaced, word_if};
-ghost use Rattle.pf_print.specs.RuleText.{parts_text};
 ghost use Rattle.pf_print.specs.TableText.{entries_text, entry_text, table_text};
 
 use crate::host::{put_if, put_network, put_table_name};

@@ -1,7 +1,6 @@
 -- The parts of an answer, one appended behind the other.
-use Rattle.std.proofs.Common.{◌≡◌, ℕ, List, [], ◌∷◌, ◌++◌, Option, Some, None, codes, refl, ap, sym, ◌∙◌, append_assoc, take, length}
+use Rattle.std.proofs.Common.{◌≡◌, ℕ, List, [], ◌∷◌, ◌++◌, Option, Some, None, codes, refl, ap, sym, ◌∙◌, append_assoc}
 use Rattle.std.specs.List.{filter_map, flat_map}
-use Rattle.std.proofs.Math.Seq.{take-append_seam}
 use Rattle.std.proofs.lemmas.List.{append-nil}
 use Rattle.pf_parts.specs.Appending.{Extends}
 use Rattle.pf_parts.specs.Parts.{joined, spaced}
@@ -26,10 +25,6 @@ block_joined old a b new first log tag label ha hb h =
     let whole : new ≡ old ++ (first ++ flat_map spaced (log ∷ tag ∷ label ∷ [])) =
     rw (h, hb, ha, append-nil (spaced label)) (simp append_assoc) in
     whole ∙ ap (λ (text : List ℕ). old ++ text) (joined_first first (log ∷ tag ∷ label ∷ []))
-
--- what stood in front before
-pub take-Extends : (old new : List ℕ) → Extends old new → take (length old) new ≡ old
-take-Extends old new h = ap (take (length old)) h.joined ∙ take-append_seam old h.more
 
 -- a buffer that is appended to again
 pub Extends-then : {old mid new : List ℕ} → Extends old mid → Extends mid new → Extends old new

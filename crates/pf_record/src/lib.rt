@@ -16,6 +16,3 @@ pub use answer::put_answer;
 pub use field::{Field, PacketFault};
 pub use record::{a_record_is_read_one_way, read_packet};
 pub use translation::{put_nat, put_rdr};
-
-#[cfg(test)]
-mod tests;

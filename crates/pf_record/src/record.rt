@@ -9,13 +9,9 @@ use crate::values::KeyValues;
 use pf_addr::texts_are_read_in_one_way;
 use pf_rule::Packet;
 
-/// Reads the record of a packet: words between single spaces. They are the direction `in` or `out`, the
-/// interface, the protocol as a number to 255 or a name, the source, the destination of the same family,
-/// and then keys in this order, each at most once: `sport=` and `dport=` (0 to 65535; TCP and UDP alone
-/// have them, and always), `flags=` (letters of FSRPAUEW, TCP alone), `icmptype=` and `code=` (0 to 255;
-/// ICMP and ICMPv6 alone have them, and always), `tos=` (0 to 255, else 0), `prio=` (0 to 7, else 3),
-/// `user=` and `group=` (u32, TCP and UDP alone), and `tag=`.
-/// The fault is the first from left to right; where no word has one, the first key that is missing.
+/// Reads the record of a packet (pfctl(8), PACKET RECORDS): words between single spaces, which are direction,
+/// interface, protocol, source, destination and then keys with their values. The fault is the first from left
+/// to right; where no word has one, the first key that is missing.
 pub fn read_packet(text: &[u8]) -> Result<Packet, PacketFault>
     ensures reads { IsReadAs text.now result }
     ensures only { (other : Result Packet PacketFault) → IsReadAs text.now other → other ≡ result }

@@ -3,7 +3,7 @@ ghost use Rattle.std.specs.Prelude.{◌≡◌, ◌≤◌, true, None, Some, IfOk
 ghost use Rattle.std.specs.Option.{option_copied, option_or};
 ghost use Rattle.pf_base.specs.Decimal.{decimal_of};
 ghost use Rattle.pf_base.specs.Name.{plain_name as name_of};
-ghost use Rattle.pf_record.specs.Reading.{IsPacketOf, end_fault, fault_in, value_read, values_fault, values_of};
+ghost use Rattle.pf_record.specs.Reading.{IsPacketOf, end_fault, value_read, values_fault, values_of};
 ghost use Rattle.pf_record.specs.Record.{perhaps};
 ghost use Rattle.pf_ops.specs.Words as says;
 ghost use Rattle.pf_record.specs.declared.field.Field.TheVariants as field_name;
@@ -18,7 +18,7 @@ use pf_ops::flags_of;
 use pf_rule::Packet;
 
 // The greatest port.
-const MOST_PORT: u32 = 65535;
+const MOST_PORT: u32 = 65_535;
 
 // The greatest number of a byte.
 const MOST_BYTE: u32 = 255;

@@ -15,7 +15,7 @@ use Rattle.pf_host.specs.Facts.{HostFacts}
 use Rattle.pf_host.specs.Line.{Line, is_passed_over, is_rest, kind_named, line_about, line_of, line_said, lines_about, lines_said, word_of}
 use Rattle.pf_host.specs.Meaning.{AreSaid, IsFactsText, SaysAddress, SaysHost, SaysNumber, most_id, most_port}
 use Rattle.pf_host.specs.declared.row.Row.{Row}
-use Rattle.pf_syntax.specs.Words.{is_name, is_name_byte}
+use Rattle.pf_syntax.specs.Words.{is_name, is_quotable}
 use Rattle.pf_token.specs.Bytes.{class_of}
 use Rattle.pf_reread.proofs.AddrTexts.{masked_is_addr, network_of_masked, text_is_addr}
 use Rattle.pf_reread.proofs.Every.{Every, every_filter, every_from, every_map, every_picked}
@@ -42,7 +42,7 @@ pub record FactsAre (facts : HostFacts) : Type 0 where
 
 -- a byte of a plain name can stand in a name of a file
 abbrev fits_files : ℕ → Bool
-fits_files byte = not (is_plain_byte byte) || (is_string_byte byte && is_name_byte byte)
+fits_files byte = not (is_plain_byte byte) || (is_string_byte byte && is_quotable byte)
 
 abbrev always : ℕ → Bool
 always byte = true
@@ -81,16 +81,16 @@ only_then : (first second : Bool) → (not first || second) ≡ true → first �
 only_then true second is first = is
 only_then false second is first = absurd (cc)
 
-plain_fits : (byte : ℕ) → is_plain_byte byte ≡ true → (is_string_byte byte && is_name_byte byte) ≡ true
-plain_fits byte is = only_then (is_plain_byte byte) (is_string_byte byte && is_name_byte byte) (agree_below_at fits_files always 128 byte all_fit (plain_low byte is)) is
+plain_fits : (byte : ℕ) → is_plain_byte byte ≡ true → (is_string_byte byte && is_quotable byte) ≡ true
+plain_fits byte is = only_then (is_plain_byte byte) (is_string_byte byte && is_quotable byte) (agree_below_at fits_files always 128 byte all_fit (plain_low byte is)) is
 
-plain_bytes : (text : List ℕ) → list_all is_plain_byte text ≡ true → (list_all is_string_byte text ≡ true) × (list_all is_name_byte text ≡ true)
+plain_bytes : (text : List ℕ) → list_all is_plain_byte text ≡ true → (list_all is_string_byte text ≡ true) × (list_all is_quotable text ≡ true)
 plain_bytes [] all = (refl, refl)
 plain_bytes (byte ∷ text) all =
     let parts = and_parts (is_plain_byte byte) (list_all is_plain_byte text) all in
-    let first = and_parts (is_string_byte byte) (is_name_byte byte) (plain_fits byte parts.0) in
+    let first = and_parts (is_string_byte byte) (is_quotable byte) (plain_fits byte parts.0) in
     let rest = plain_bytes text parts.1 in
-    (and_from (is_string_byte byte) (list_all is_string_byte text) first.0 rest.0, and_from (is_name_byte byte) (list_all is_name_byte text) first.1 rest.1)
+    (and_from (is_string_byte byte) (list_all is_string_byte text) first.0 rest.0, and_from (is_quotable byte) (list_all is_quotable text) first.1 rest.1)
 
 plain_file_name : (name : List ℕ) → is_plain_name name ≡ true → is_file_name name ≡ true
 unfolding is_plain_name
@@ -98,7 +98,7 @@ plain_file_name name is =
     let parts = and_parts (nat_le 1 (length name) && nat_le (length name) 63) (list_all is_plain_byte name) is in
     let bytes = plain_bytes name parts.1 in
     and_from (is_name name) (list_all is_string_byte name)
-    (and_from (nat_le 1 (length name) && nat_le (length name) 63) (list_all is_name_byte name) parts.0 bytes.1) bytes.0
+    (and_from (nat_le 1 (length name) && nat_le (length name) 63) (list_all is_quotable name) parts.0 bytes.1) bytes.0
 
 -- ---- lines
 

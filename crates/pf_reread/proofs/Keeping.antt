@@ -110,10 +110,6 @@ pub until_keeps : {A : Type 0} {Holds : A → Type 0} {ends : Symbols → Bool} 
 until_keeps {Holds = Holds} {ends = ends} {step = step} {most = most} {value = value} each holds =
     record { kept = λ start last rest file. repeated_kept Holds ends step each (most start) value holds start last rest file }
 
--- what is said of the value is left out
-pub forget : {A : Type 0} {Holds : A → Type 0} {derives : Production A} → Keeps Holds derives → Keeps Anything derives
-forget keeps = record { kept = λ start value rest file is. record { holds = tt; left = (keeps.kept start value rest file is).left } }
-
 -- one part of which nothing is said, and behind it another
 pub row : {A B : Type 0} {Holds : B → Type 0} {first : Production A} {second : A → Production B}
     → Keeps Anything first → ((part : A) → Keeps Holds (second part)) → Keeps Holds (Then first second)
@@ -152,12 +148,6 @@ all_keep test item each =
 
 pub list_rest : {A : Type 0} (item : Grammar A) → Keeps Anything item.derives → Keeps Anything (list_of item).derives
 list_rest item each = list_keeps item (λ only holds. tt) (λ items next held holds. tt) each
-
-pub brackets_rest : {A : Type 0} (part : A → Grammar A) (none : A) → ((before : A) → Keeps Anything (part before).derives) → Keeps Anything (in_brackets part none).derives
-brackets_rest part none each =
-    row any_keeps (λ opened. row (each none) (λ first.
-    then_keeps {First = Anything} (until_keeps (λ before held. row perhaps_keeps (λ comma. each before)) tt)
-    (λ last held. row any_keeps (λ closed. none_keeps))))
 
 -- parts in brackets, each of which keeps it
 pub brackets_keep : {A : Type 0} {Holds : A → Type 0} (part : A → Grammar A) (none : A) → ((before : A) → Holds before → Keeps Holds (part before).derives) → Holds none → Keeps Holds (in_brackets part none).derives

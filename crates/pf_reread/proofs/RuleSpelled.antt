@@ -154,11 +154,6 @@ of_log : (log : Log) → spelled (log_glyphs log) ≡ spaced (log_text log)
 unfolding log_text
 of_log log = of_log_if log.on log
 
--- a `!` in front
-of_not : (negated : Bool) (others : List Glyph) → spelled (not_glyphs negated ++ others) ≡ (if negated then codes " !" else []) ++ spelled others
-of_not true others = refl
-of_not false others = refl
-
 of_iface_if : (negated : Bool) (text : List ℕ)
     → spelled (word (codes "on") ∷ (not_glyphs negated ++ name text ∷ [])) ≡ codes " " ++ (codes "on " ++ text_if negated (codes "! ") ++ name_text text)
 of_iface_if true text = ap (λ other. codes " on ! " ++ other) (append-nil (symbol_text (name_symbol text)) ∙ name_text-symbol text)

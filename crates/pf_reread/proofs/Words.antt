@@ -12,10 +12,9 @@ use Rattle.pf_base.specs.Text.{is_nothing}
 use Rattle.pf_decl.specs.ReadBack.{is_file_name, is_string_byte}
 use Rattle.pf_parts.specs.NameText as names
 use Rattle.pf_syntax.specs.Symbols.{Symbol, bare, quoted, is_mark, is_word}
-use Rattle.pf_syntax.specs.Words.{in_range, is_name, is_name_byte, name_of}
+use Rattle.pf_syntax.specs.Words.{in_range, is_name, is_quotable, name_of}
 use Rattle.pf_token.specs.Bytes.{class_of, is_word_byte, is_known}
 use Rattle.pf_reread.specs.TokenText.{is_known_byte, is_plain_class, is_plain_in_string, is_string_text, is_word_text}
-use Rattle.pf_reread.proofs.Following.{not_same}
 use Rattle.pf_reread.proofs.Glyphs.{is_spelled, symbol_text, weaker}
 
 -- a byte that passes one test passes another, where this holds of each byte of a table
@@ -83,16 +82,16 @@ not_any name is =
     not-true (bytes_eq name (codes "any")) p.1
 
 -- a name that a file can have is a string
-string_byte : (byte : ℕ) → is_name_byte byte ≡ true → is_string_byte byte ≡ true → is_plain_in_string byte ≡ true
+string_byte : (byte : ℕ) → is_quotable byte ≡ true → is_string_byte byte ≡ true → is_plain_in_string byte ≡ true
 string_byte byte named made =
     let p = and_parts (not (byte == 34)) (not (byte == 92)) named in
     let q = and_parts (is_known (class_of byte)) (not (byte == 10)) made in
     and_from (not (byte == 34)) (not (byte == 92) && not (byte == 10)) p.0 (and_from (not (byte == 92)) (not (byte == 10)) p.1 q.1)
 
-string_bytes : (name : List ℕ) → list_all is_name_byte name ≡ true → list_all is_string_byte name ≡ true → list_all is_plain_in_string name ≡ true
+string_bytes : (name : List ℕ) → list_all is_quotable name ≡ true → list_all is_string_byte name ≡ true → list_all is_plain_in_string name ≡ true
 string_bytes [] named made = refl
 string_bytes (byte ∷ name) named made =
-    let p = and_parts (is_name_byte byte) (list_all is_name_byte name) named in
+    let p = and_parts (is_quotable byte) (list_all is_quotable name) named in
     let q = and_parts (is_string_byte byte) (list_all is_string_byte name) made in
     and_from (is_plain_in_string byte) (list_all is_plain_in_string name) (string_byte byte p.0 q.0) (string_bytes name p.1 q.1)
 
@@ -102,7 +101,7 @@ has_room name = nat_le 1 (length name) && nat_le (length name) 63
 pub quoted_spelled : (name : List ℕ) → is_file_name name ≡ true → is_string_text name ≡ true
 quoted_spelled name is =
     let p = and_parts (is_name name) (list_all is_string_byte name) is in
-    let q = and_parts (has_room name) (list_all is_name_byte name) p.0 in
+    let q = and_parts (has_room name) (list_all is_quotable name) p.0 in
     and_from (list_all is_plain_in_string name) (list_all is_known_byte name) (string_bytes name q.1 p.1)
     (weaker is_string_byte is_known_byte (λ byte e. (and_parts (is_known (class_of byte)) (not (byte == 10)) e).0) name p.1)
 
@@ -188,20 +187,16 @@ decimal_of-decimal most n fits small = rw (number_some n small, all_digits n sma
 pub in_range-decimal : (least most n : ℕ) → least ≤ n → n ≤ most → n < 2 ^ 64 → in_range least (decimal_of most (decimal n)) ≡ Some n
 in_range-decimal least most n some fits small = rw (decimal_of-decimal most n fits small, le-leb least n some) refl
 
--- a number is no keyword
-pub number_not : (n : ℕ) (word : List ℕ) → n < 2 ^ 64 → list_all is_ascii_digit word ≡ false → bytes_eq (decimal n) word ≡ false
-number_not n word small other = not_same (list_all is_ascii_digit) (decimal n) word (all_digits n small) other
-
 pub number_begins : (n : ℕ) → n < 2 ^ 64 → list_all begins_word (decimal n) ≡ true
 number_begins n small = weaker is_ascii_digit begins_word digit_byte (decimal n) (all_digits n small)
 
-name_table : agree_below (implies is_ascii_digit is_name_byte) (λ _. true) 127 ≡ true
+name_table : agree_below (implies is_ascii_digit is_quotable) (λ _. true) 127 ≡ true
 name_table = refl
 
-digit_name : (byte : ℕ) → is_ascii_digit byte ≡ true → is_name_byte byte ≡ true
+digit_name : (byte : ℕ) → is_ascii_digit byte ≡ true → is_quotable byte ≡ true
 digit_name byte e =
     let p = and_parts (nat_le 48 byte) (nat_le byte 57) e in
-    let fits : byte ≤ 57 = leb-true byte 57 p.1 in in_table is_ascii_digit is_name_byte byte name_table (omega arith) e
+    let fits : byte ≤ 57 = leb-true byte 57 p.1 in in_table is_ascii_digit is_quotable byte name_table (omega arith) e
 
 -- a number below 256 is a name
 pub number_is_name : (n : ℕ) → n ≤ 255 → is_name (decimal n) ≡ true
@@ -209,6 +204,6 @@ number_is_name n fits =
     let small : n < 2 ^ 64 = omega arith in
     let long : length (decimal n) ≤ 3 = length-decimal-le 3 n (omega arith) (omega arith) small in
     let some : 0 < length (decimal n) = decimal_nonempty n small in
-    and_from (has_room (decimal n)) (list_all is_name_byte (decimal n))
+    and_from (has_room (decimal n)) (list_all is_quotable (decimal n))
     (and_from (nat_le 1 (length (decimal n))) (nat_le (length (decimal n)) 63) (le-leb 1 (length (decimal n)) (omega arith)) (le-leb (length (decimal n)) 63 (omega arith)))
-    (weaker is_ascii_digit is_name_byte digit_name (decimal n) (all_digits n small))
+    (weaker is_ascii_digit is_quotable digit_name (decimal n) (all_digits n small))

@@ -1,6 +1,6 @@
 -- Walks through lists of rules, for any kind of walk and of rule.
-use Rattle.std.proofs.Common.{◌≡◌, ℕ, zero, suc, ◌+◌, ◌≤◌, length, Bool, true, false, cond, ◌||◌, List, [], ◌∷◌, ◌++◌, All, map, refl, ap, sym, ◌∙◌, arith}
-use Rattle.pf_rule.specs.Walking.{DoAlike, IsSeenAs, OneEffect, Walking, once, reached_through, some_hits, walked_past, walked_through}
+use Rattle.std.proofs.Common.{◌≡◌, ℕ, zero, suc, ◌+◌, ◌≤◌, length, Bool, true, false, cond, ◌||◌, List, [], ◌∷◌, ◌++◌, All, refl, ap, sym, ◌∙◌, arith}
+use Rattle.pf_rule.specs.Walking.{DoAlike, OneEffect, Walking, once, reached_through, some_hits, walked_past, walked_through}
 
 -- what holds of all elements holds of the first
 pub first_of_all : {A : Type 0} → (P : A → Type 0) (x : A) (xs : List A) → All P (x ∷ xs) → P x
@@ -105,28 +105,4 @@ alike_walks {W} {R} one other (rule ∷ rules) walk alike =
           behind
           ∙ ap (walked_through other rules) (past_alike (one.hits rule walk) (other.hits rule walk) (one.deed rule walk) (other.deed rule walk) walk (same_hit going) (same_deed going))
           ∙ sym (goes_on other rule rules walk (sym (alike.stops walk) ∙ going)))
-    ] refl
-
-past_seen : {W V : Type 0} (view : W → V) (hit hit' : Bool) (done walk : W) (done' : V) → hit ≡ hit' → (hit ≡ true → view done ≡ done')
-    → view (cond hit done walk) ≡ cond hit' done' (view walk)
-past_seen view true hit' done walk done' same alike = alike refl ∙ ap (λ b. cond b done' (view walk)) same
-past_seen view false hit' done walk done' same alike = ap (λ b. cond b done' (view walk)) same
-
--- the view of a walk is the walk of its view
-pub seen_walks : {W R V S : Type 0} → (on : Walking W R) (onto : Walking V S) (view : W → V) (seen : R → S) (rules : List R) (walk : W)
-    → IsSeenAs on onto view seen rules → view (walked_through on rules walk) ≡ walked_through onto (map seen rules) (view walk)
-seen_walks on onto view seen [] walk as_seen = refl
-seen_walks {W} {R} {V} {S} on onto view seen (rule ∷ rules) walk as_seen =
-    let Hits : R → Type 0 = λ r. (w : W) → on.stopped w ≡ false → on.hits r w ≡ onto.hits (seen r) (view w) in
-    let Deeds : R → Type 0 = λ r. (w : W) → on.stopped w ≡ false → on.hits r w ≡ true → view (on.deed r w) ≡ onto.deed (seen r) (view w) in
-    let rest : IsSeenAs on onto view seen rules = record { stops = as_seen.stops; hits = rest_of_all Hits rule rules as_seen.hits; deeds = rest_of_all Deeds rule rules as_seen.deeds } in
-    let same_hit : on.stopped walk ≡ false → on.hits rule walk ≡ onto.hits (seen rule) (view walk) = first_of_all Hits rule rules as_seen.hits walk in
-    let same_deed : on.stopped walk ≡ false → on.hits rule walk ≡ true → view (on.deed rule walk) ≡ onto.deed (seen rule) (view walk) = first_of_all Deeds rule rules as_seen.deeds walk in
-    let behind : view (walked_through on rules (walked_past on rule walk)) ≡ walked_through onto (map seen rules) (view (walked_past on rule walk)) = seen_walks on onto view seen rules (walked_past on rule walk) rest in
-    elim (on.stopped walk) as (λ b. on.stopped walk ≡ b → view (cond b walk (walked_through on rules (walked_past on rule walk))) ≡ walked_through onto (seen rule ∷ map seen rules) (view walk)) [
-      | true ↦ (λ stopped. sym (stopped_stays onto (seen rule ∷ map seen rules) (view walk) (sym (as_seen.stops walk) ∙ stopped)))
-      | false ↦ (λ going.
-          behind
-          ∙ ap (walked_through onto (map seen rules)) (past_seen view (on.hits rule walk) (onto.hits (seen rule) (view walk)) (on.deed rule walk) walk (onto.deed (seen rule) (view walk)) (same_hit going) (same_deed going))
-          ∙ sym (goes_on onto (seen rule) (map seen rules) (view walk) (sym (as_seen.stops walk) ∙ going)))
     ] refl

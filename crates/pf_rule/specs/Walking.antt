@@ -44,13 +44,6 @@ pub record DoAlike {W R : Type 0} (one other : Walking W R) (rules : List R) : T
   pub hits : All (λ rule. (walk : W) → one.stopped walk ≡ false → one.hits rule walk ≡ other.hits rule walk) rules
   pub deeds : All (λ rule. (walk : W) → one.stopped walk ≡ false → one.hits rule walk ≡ true → one.deed rule walk ≡ other.deed rule walk) rules
 
--- each walk of the one walking has a view, and each rule is seen as one of the other walking, which does with views what the
--- one does with walks
-pub record IsSeenAs {W R V S : Type 0} (on : Walking W R) (onto : Walking V S) (view : W → V) (seen : R → S) (rules : List R) : Type 0 where
-  pub stops : (walk : W) → on.stopped walk ≡ onto.stopped (view walk)
-  pub hits : All (λ rule. (walk : W) → on.stopped walk ≡ false → on.hits rule walk ≡ onto.hits (seen rule) (view walk)) rules
-  pub deeds : All (λ rule. (walk : W) → on.stopped walk ≡ false → on.hits rule walk ≡ true → view (on.deed rule walk) ≡ onto.deed (seen rule) (view walk)) rules
-
 -- a list of rules of one effect, which twice is the effect once
 pub record OneEffect {W R : Type 0} (on : Walking W R) (effect : W → W) (rules : List R) : Type 0 where
   pub one : All (λ rule. (walk : W) → on.deed rule walk ≡ effect walk) rules

@@ -1,6 +1,6 @@
 //! Walks through lists of rules, of which [`crate::Walk`] is one kind.
-ghost use Rattle.std.specs.Prelude.{◌≡◌, ◌≤◌, List, ◌++◌, true, length, map};
-ghost use Rattle.pf_rule.specs.Walking.{DoAlike, IsSeenAs, OneEffect, Walking, once, reached_through, walked_through};
+ghost use Rattle.std.specs.Prelude.{◌≡◌, ◌≤◌, List, ◌++◌, true, length};
+ghost use Rattle.pf_rule.specs.Walking.{DoAlike, OneEffect, Walking, once, reached_through, walked_through};
 
 /// Laws of the walk through a list of rules (pf.conf(5), PACKET FILTERING), for walks `W` and rules `R`
 /// of any kind.
@@ -20,12 +20,4 @@ pub fn laws_of_walks<W, R>()
     // Each rule is reached at most once.
     ensures reached { (on : Walking W R) (rules : List R) (walk : W) →
         reached_through on rules walk ≤ length rules }
-{}
-
-/// A law: where the walks `W` of one walking have views `V` in another, which does with them and its
-/// rules `S` what the one does with its rules `R`, the view of a walk is the walk of its view.
-pub fn views_walk_alike<W, R, V, S>()
-    ensures { (on : Walking W R) (onto : Walking V S) (view : W → V) (seen : R → S) (rules : List R) (walk : W) →
-        IsSeenAs on onto view seen rules →
-        view (walked_through on rules walk) ≡ walked_through onto (map seen rules) (view walk) }
 {}

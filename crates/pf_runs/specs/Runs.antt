@@ -15,7 +15,7 @@ pub record Stepped (M : Type 0) : Type 0 where
   pub refused : Bool
   pub unread : List (List ℕ)
 
--- The step of a machine relates the files, the machine before and the line to what the line does.
+-- a step says, of some files, a machine and a line, what the line may do
 abbrev pub Step : Type 0 → Type 1
 Step M = Disk → M → List ℕ → Stepped M → Type 0
 

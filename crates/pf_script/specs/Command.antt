@@ -44,7 +44,7 @@ keyword_of word =
     else if bytes_eq word (codes "test") then Some keyword.Test
     else None
 
--- what is done with a table (pfctl(8), -T)
+-- what is done with a table (pfctl(8), Tables)
 unfoldable pub action_word_of : List ℕ → Option ActionWord
 action_word_of word =
     if bytes_eq word (codes "add") then Some action.Add
@@ -55,7 +55,7 @@ action_word_of word =
     else if bytes_eq word (codes "test") then Some action.Test
     else None
 
--- what is shown (pfctl(8), -s)
+-- what is shown (pfctl(8), Shows)
 unfoldable pub show_word_of : List ℕ → Option ShowWord
 show_word_of word =
     if bytes_eq word (codes "rules") then Some shown.Rules

@@ -1,4 +1,4 @@
-//! What a line does with a table (pfctl(8), -T).
+//! What a line does with a table (pfctl(8), Tables).
 ghost use Rattle.std.specs.Prelude.{◌≡◌};
 ghost use Rattle.pf_script.specs.Command as says;
 

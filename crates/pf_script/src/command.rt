@@ -3,7 +3,7 @@ use crate::words::{Record, Words};
 use pf_base::{Level, List, Name, Path, Text};
 use pf_token::Define;
 
-/// How a file is loaded (pfctl(8), -o, -a, -P, -D, -f).
+/// How a file is loaded (pfctl(8), Loads and sessions; -o, -a, -P, -D, -f).
 #[derive(Drop)]
 pub struct LoadLine {
     /// How far rulesets are optimised, whatever the file sets.
@@ -18,7 +18,7 @@ pub struct LoadLine {
     pub file: Text,
 }
 
-/// What is done with a table (pfctl(8), -T). Where there are words there is at least one, and they are as written.
+/// What is done with a table (pfctl(8), Tables). Where there are words there is at least one, and they are as written.
 #[derive(Drop)]
 pub enum TableAction<'a> {
     /// Adds these entries.
@@ -35,7 +35,7 @@ pub enum TableAction<'a> {
     Test(Words<'a>),
 }
 
-/// What is shown (pfctl(8), -s). A name of these paths may begin with `_`.
+/// What is shown (pfctl(8), Shows). A name of these paths may begin with `_`.
 #[derive(Drop)]
 pub enum Show {
     /// The rules of a ruleset as they are evaluated.

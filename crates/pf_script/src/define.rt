@@ -1,5 +1,5 @@
 //! The macro that a word NAME=VALUE gives (pfctl(8), -D).
-ghost use Rattle.std.specs.Prelude.{◌≡◌, ℕ, true, false, None, Some, IfOk, IfSome, IfNone, length, nat_le, position, ◌==◌};
+ghost use Rattle.std.specs.Prelude.{◌≡◌, true, false, None, Some, IfOk, IfSome, IfNone, length, nat_le, position, ◌==◌};
 ghost use Rattle.std.specs.List.{list_all};
 ghost use Rattle.pf_token.specs.Bytes.{is_name_byte};
 ghost use Rattle.pf_script.specs.Word.{define_of, is_macro_name, most_value, name_in, value_in};
@@ -67,6 +67,6 @@ pub(crate) fn read_definition(alloc: Global, word: &[u8]) -> Result<Option<Defin
     if !is_value(value) {
         return Ok(None);
     }
-    let value = List::of(Vec::from_slice(alloc, value)?);
+    let value = List::copy_of(alloc, value)?;
     Ok(Some(Define { name, value }))
 }

@@ -24,13 +24,6 @@ pub(crate) struct Given {
     pub defines: List<Define>,
 }
 
-// A copy of a text.
-pub(crate) fn copy_of(alloc: Global, text: &[u8]) -> Result<Text, NoMemory>
-    ensures { IfOk result (λ copy. copy ≡ text.now) }
-{
-    Ok(List::of(Vec::from_slice(alloc, text)?))
-}
-
 // Is a macro of this name among them?
 fn has_name(name: &Name, defines: &[Define]) -> bool
     ensures { result ≡ says.has_name name.now defines.now }
@@ -82,7 +75,7 @@ impl Given {
         if self.profile.is_some() {
             return Ok(false);
         }
-        self.profile = Some(copy_of(alloc, file)?);
+        self.profile = Some(List::copy_of(alloc, file)?);
         Ok(true)
     }
 
@@ -142,7 +135,7 @@ impl Given {
     {
         match file_of(word) {
             None => Ok(None),
-            Some(file) => Ok(Some(self.into_line(copy_of(alloc, file)?))),
+            Some(file) => Ok(Some(self.into_line(List::copy_of(alloc, file)?))),
         }
     }
 }

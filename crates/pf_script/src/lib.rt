@@ -19,6 +19,3 @@ pub use command::{Command, LoadLine, Show, TableAction};
 pub use laws::{a_line_says_what_it_spells, a_line_spells_one_command};
 pub use reading::read_command;
 pub use words::{Record, Words};
-
-#[cfg(test)]
-mod tests;

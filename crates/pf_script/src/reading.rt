@@ -4,13 +4,12 @@ ghost use Rattle.pf_script.specs.Command as says;
 
 use crate::action::read_table;
 use crate::command::Command;
-use crate::given::copy_of;
 use crate::keyword::{Keyword, keyword_of};
 use crate::line::{one_word, read_flush, read_show, session_alone};
 use crate::loading::read_load;
 use crate::single::{file_of, is_plain, session_of, skip_blanks, skip_word};
 use crate::words::{Record, Words};
-use pf_base::NoMemory;
+use pf_base::{List, NoMemory};
 use std::alloc::Global;
 
 // A session's name, and how its file is loaded.
@@ -38,7 +37,7 @@ fn read_hosts<'a>(alloc: Global, words: &mut Words<'a>) -> Result<Option<Command
     };
     match file_of(word) {
         None => Ok(None),
-        Some(file) => Ok(Some(Command::Hosts(copy_of(alloc, file)?))),
+        Some(file) => Ok(Some(Command::Hosts(List::copy_of(alloc, file)?))),
     }
 }
 

@@ -96,7 +96,7 @@ pub(crate) fn session_of(word: &[u8]) -> Option<Name>
     if !are_session_bytes(word) {
         return None;
     }
-    table_of(word)
+    Name::new(word)
 }
 
 // How far rulesets are optimised.

@@ -1,4 +1,4 @@
--- What a command makes of one table, and what it is told (pfctl(8), -T).
+-- What a command makes of one table, and what it is told (pfctl(8), Tables).
 use Rattle.std.specs.Prelude.{◌≡◌, ℕ, Bool, false, not, ◌&&◌, ◌||◌, List, [], ◌∷◌, ◌++◌, length, Option, Some, None, Result, Ok, Err, is_some, take, nat_lt, if◌then◌else◌}
 use Rattle.std.specs.List.{filter}
 use Rattle.std.specs.FinMap as finite

@@ -4,7 +4,7 @@ ghost use Rattle.std.specs.Prelude.{◌≡◌};
 
 use pf_base::NoMemory;
 
-/// A change of a table by a list of entries (pfctl(8), -T).
+/// A change of a table by a list of entries (pfctl(8), Tables).
 #[derive(Clone, Copy, Debug, PartialEq, Eq)]
 pub enum ChangeKind {
     /// Adds the entries whose prefix the table doesn't have, with either sign.

@@ -1,4 +1,4 @@
-//! The declared tables of a ruleset (pf.conf(5), TABLES; pfctl(8), -t and -T). It stands on pf_base (names, ordered
+//! The declared tables of a ruleset (pf.conf(5), TABLES; pfctl(8), Tables). It stands on pf_base (names, ordered
 //! maps), pf_addr and pf_table. The layers above see the finite map from names to tables with their flags, change one
 //! table by name, and make the shelf that a load leaves.
 #![tactic(auto)]
@@ -12,6 +12,3 @@ mod words;
 pub use change::{ChangeKind, Counts, TableFault};
 pub use decl::{Shelved, TableDecl, TableFlags};
 pub use shelf::Shelf;
-
-#[cfg(test)]
-mod tests;

@@ -91,7 +91,7 @@ impl Shelf {
         }
     }
 
-    /// Changes the table of this name by entries, taken from the left; it may have `room` entries then (pfctl(8), -T).
+    /// Changes the table of this name by entries, taken from the left; it may have `room` entries then (pfctl(8), Tables).
     /// `Missing` comes exactly where there is no such table, `Const` exactly where it is constant, and `Full` with the
     /// number that it would have where that is over the room. After a fault nothing has changed.
     pub fn change(
@@ -146,6 +146,7 @@ impl Shelf {
         ensures { IfOk result (λ names. names.items ≡ map.keys self.now) }
     {
         name_map_laws::<Shelved>();
+        // The map's length is a number of the machine, which the proof of the list must know.
         let _count = self.tables.len();
         let names = self.tables.keys().copied().collect(alloc)?;
         Ok(names)
@@ -220,6 +221,7 @@ impl Shelf {
         ensures { OnOk result (shelf.new ≡ map.from_entries (map.entries shelf.old ++ filter persists (map.entries self.now))) }
     {
         name_map_laws::<Shelved>();
+        // The map's length is a number of the machine, which the proof of the loop must know.
         let _count = self.tables.len();
         for (name, shelved) in &self.tables {
             shelf.keep(name, shelved)?;

@@ -1,7 +1,6 @@
 -- Lines of items, those shown so far and those still to be shown.
-use Rattle.std.proofs.Common.{◌≡◌, ℕ, ◌+◌, ◌-◌, ◌<◌, ◌≤◌, suc, List, [], ◌∷◌, ◌++◌, map, Option, Some, None, refl, sym, ap, ◌∙◌, append_assoc, arith}
-use Rattle.std.specs.List.{filter_map, flat_map, range_with_len}
-use Rattle.std.specs.Option.{option_to_list}
+use Rattle.std.proofs.Common.{◌≡◌, ℕ, ◌+◌, ◌-◌, ◌<◌, ◌≤◌, suc, List, [], ◌∷◌, ◌++◌, map, refl, sym, ap, ◌∙◌, append_assoc, arith}
+use Rattle.std.specs.List.{flat_map, range_with_len}
 use Rattle.pf_parts.specs.Appending.{Extends}
 use Rattle.pf_show.specs.Lines.{lines_text, shown_by}
 
@@ -16,23 +15,9 @@ pub lines_of_map : {A : Type 0} (line : A → List ℕ) (items : List A) → lin
 lines_of_map line [] = refl
 lines_of_map line (item ∷ items) = ap (λ (rest : List ℕ). (line item ++ 10 ∷ []) ++ rest) (lines_of_map line items)
 
--- one line more
-pub one_more : {A : Type 0} (line : A → List ℕ) (item : A) (rest : List A) (before now all : List ℕ) → before ++ shown_by line (item ∷ rest) ≡ all → now ≡ before ++ (line item ++ 10 ∷ []) → now ++ shown_by line rest ≡ all
-one_more line item rest before now all h k = ap (λ (out : List ℕ). out ++ shown_by line rest) k ∙ (append_assoc before (line item ++ 10 ∷ []) (shown_by line rest) ∙ h)
-
 none_more : (text : List ℕ) → text ++ [] ≡ text
 none_more [] = refl
 none_more (byte ∷ text) = ap (λ (rest : List ℕ). byte ∷ rest) (none_more text)
-
--- the lines of those that are there
-pub there_more : {A : Type 0} (line : A → Option (List ℕ)) (item : A) (rest : List A) (before now all : List ℕ) → before ++ lines_text (filter_map line (item ∷ rest)) ≡ all → now ≡ before ++ lines_text (option_to_list (line item)) → now ++ lines_text (filter_map line rest) ≡ all
-there_more line item rest before now all h k =
-    ap (λ (out : List ℕ). out ++ lines_text (filter_map line rest)) k
-    ∙ (append_assoc before (lines_text (option_to_list (line item))) (lines_text (filter_map line rest)) ∙ (ap (λ (more : List ℕ). before ++ more) (by_line (line item) refl) ∙ h))
-  where
-    by_line : (found : Option (List ℕ)) → line item ≡ found → lines_text (option_to_list (line item)) ++ lines_text (filter_map line rest) ≡ lines_text (filter_map line (item ∷ rest))
-    by_line None e = rw e refl
-    by_line (Some text) e = rw e (ap (λ (t : List ℕ). t ++ lines_text (filter_map line rest)) (none_more (text ++ 10 ∷ [])))
 
 -- the places from one on
 places_on : (n place : ℕ) → place < n → range_with_len place (n - place) ≡ place ∷ range_with_len (place + 1) (n - (place + 1))

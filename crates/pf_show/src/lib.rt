@@ -13,6 +13,3 @@ pub use line::Line;
 pub use lines::put_lines;
 pub use shelves::put_declared;
 pub use skips::put_skips;
-
-#[cfg(test)]
-mod tests;

@@ -29,6 +29,7 @@ fn put_skip(out: &mut Vec<u8>, rules: &Ruleset, place: u32, field: u8) -> Result
     ensures ok { OnOk result (out.new.items ≡ out.old.items ++ place_text (skip (form_of rules.now).rules place field)) }
     ensures kept { Extends out.old.items out.new.items }
 {
+    // What `fast` promises of the ruleset, which the proof of the call must know.
     let _fast = rules.fast();
     put_place(out, rules.skip(place, field))
 }
@@ -51,6 +52,7 @@ fn put_skip_line(out: &mut Vec<u8>, rules: &Ruleset, place: u32) -> Result<(), N
     ensures ok { OnOk result (out.new.items ≡ out.old.items ++ (skip_line (form_of rules.now).rules place ++ 10 ∷ [])) }
     ensures kept { Extends out.old.items out.new.items }
 {
+    // What `fast` promises of the ruleset, which the proof of the place must know.
     let _fast = rules.fast();
     put_number(out, place + 1)?;
     put_fields(out, rules, place)?;

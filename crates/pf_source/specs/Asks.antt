@@ -17,7 +17,7 @@ AddsNames added old new = new ≡ option_map (λ names. names ++ added) old
 abbrev pub FailOnlyAbsent : FilesTold → List (List ℕ) → Type 0
 FailOnlyAbsent old names = old.steady ≡ true → Told old.held (λ held. AreAbsent (file_of held) names)
 
--- The reads of these names failed, and no others.
+-- The reads of these names failed, and, where the names of failed reads are told, no others.
 pub record Asks (names : List (List ℕ)) (old new : FilesTold) : Type 0 where
   pub held : StaysHeld old new
   pub counted : RoseBy (length names) old.faults new.faults

@@ -46,9 +46,6 @@ pub record WrittenSoFar (old new : Option (List ℕ)) (piece rest : List ℕ) : 
   pub is : piece ≡ front ++ rest
   pub written : Appends old new front
 
-pub nothing_written : (written : Option (List ℕ)) (piece : List ℕ) → WrittenSoFar written written piece piece
-nothing_written written piece = record { front = []; is = refl; written = Appends-nothing written }
-
 -- a front of the rest was written too
 pub written_on : (a b c : Option (List ℕ)) (piece rest : List ℕ) (count : ℕ) → WrittenSoFar a b piece rest → Appends b c (take count rest) → WrittenSoFar a c piece (drop count rest)
 written_on a b c piece rest count h more = record {

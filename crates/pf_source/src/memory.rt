@@ -1,5 +1,5 @@
 //! Objects in memory, of which chosen calls fail.
-ghost use Rattle.std.specs.Prelude.{◌≡◌, ◌≤◌, [], ◌∷◌, ◌++◌, false, Some, drop, take, min, length, find, option_copied, option_map, ◌==◌};
+ghost use Rattle.std.specs.Prelude.{◌≡◌, ◌≤◌, [], false, Some, take, min, length, find, option_copied, option_map, ◌==◌};
 ghost use Rattle.std.specs.List.{list_any};
 ghost use Rattle.pf_source.specs.Told.{file_among, is_none_at_all};
 ghost use Rattle.pf_source.specs.Memory.{CopiesWithin, CountsFailure};

@@ -16,7 +16,7 @@ use std::io::{Read, Write};
 use std::{fs, rt, str};
 
 /// How many bytes are asked of a file at a time.
-const CHUNK: usize = 65536;
+const CHUNK: usize = 65_536;
 
 /// The files that the runtime reaches.
 #[derive(Drop)]
@@ -33,7 +33,8 @@ impl<R: rt::Files> RealFiles<R> {
         RealFiles { rt, faults: 0 }
     }
 
-    fn count(&mut self) -> FilesFault
+    // One fault more, and the fault to answer.
+    fn fail(&mut self) -> FilesFault
         ensures fault { result ≡ FilesFault.Failed }
         ensures faults { Rose self.old.faults self.new.faults }
     {
@@ -104,7 +105,7 @@ impl<R: rt::Files> Files for RealFiles<R> {
                 seen: limit + 1,
             }),
             Err(Unread::NoMemory) => Err(FilesFault::NoMemory),
-            Err(_) => Err(self.count()),
+            Err(_) => Err(self.fail()),
         }
     }
 }

@@ -1,32 +1,26 @@
 -- Outlines of the rulesets of a tree, path by path and part by part.
-use Rattle.std.proofs.Common.{◌≡◌, ℕ, ◌+◌, ◌<◌, Bool, true, false, cond, not, List, [], ◌∷◌, ◌++◌, map, length, drop, get_or, Option, Some, None, is_some, refl, sym, ap, subst, ◌∙◌, append_assoc, arith}
+use Rattle.std.proofs.Common.{◌≡◌, ℕ, ◌+◌, ◌<◌, Bool, true, false, cond, not, List, [], ◌∷◌, map, length, drop, get_or, Option, Some, None, is_some, refl, sym, ap, subst, ◌∙◌, arith}
 use Rattle.std.proofs.lemmas.List.{get_or-map}
 use Rattle.std.specs.Prelude.{◌&&◌, ◌||◌, if◌then◌else◌}
 use Rattle.std.specs.Option.{option_map}
-use Rattle.std.specs.List.{cons_option, list_any}
+use Rattle.std.specs.List.{list_any}
 use Rattle.std.specs.Ordering.{eq_by_cmp}
 use Rattle.std.specs.FinMap as fin
 use Rattle.std.specs.FinMap.{FinMap}
 use Rattle.pf_calls.specs.Calls.{path_eq}
 use Rattle.pf_optim.specs.Node.{is_bare}
 use Rattle.pf_optim.specs.declared.node.Node.{Node}
-use Rattle.pf_parts.specs.declared.call.Call.{Call}
 use Rattle.pf_tree.specs.GrownLaws.{path_total}
 use Rattle.pf_tree.specs.Meaning.{put_payload}
 use Rattle.pf_tree.specs.Order.{path_cmp}
 use Rattle.pf_shelf.specs.Shelf.{Tables}
 use Rattle.pf_state.specs.Commits.{is_cleared, node_of, shelf_of, shown_node, with_parts}
 use Rattle.pf_state.proofs.Lists.{left, none_left}
-use Rattle.pf_state.specs.Outlines.{AreOutlined, outline_of, with_call, with_left, with_outline}
+use Rattle.pf_state.specs.Outlines.{AreOutlined, outline_of, with_left, with_outline}
 use Rattle.pf_state.specs.Rulesets.{Rulesets}
 use Rattle.pf_state.specs.declared.outline.Outline.{Outline}
 use Rattle.pf_state.specs.declared.ready.Staged.{Staged}
 use Rattle.pf_state.proofs.Found.{found_kept, found_put, ties_decide}
-
--- a call that an action may have, and those behind it
-pub called_on : (calls rest : List Call) (call : Option Call) → with_call calls call ++ rest ≡ calls ++ cons_option call rest
-called_on calls rest None = refl
-called_on calls rest (Some call) = append_assoc calls (call ∷ []) rest
 
 -- the outlines of the rulesets at these paths that stay
 abbrev pub left_by : List Staged → Rulesets → List (List (List ℕ)) → FinMap path_cmp Outline → FinMap path_cmp Outline

@@ -67,11 +67,6 @@ join_pass : (a b : Bool) → a ≡ true → b ≡ true → (a && b) ≡ true
 join_pass true b h k = k
 join_pass false b h k = absurd (true≢false (sym h))
 
--- a test that the paths of all parts pass is passed by that of the last, and by those before it
-pub last_passes : (test : List (List ℕ) → Bool) (parts : List Staged) (part : Staged) → list_all test (paths_of (parts ++ part ∷ [])) ≡ true → test part.path ≡ true
-last_passes test [] part h = (both_pass (test part.path) true h).0
-last_passes test (first ∷ parts) part h = last_passes test parts part (both_pass (test first.path) _ h).1
-
 pub front_passes : (test : List (List ℕ) → Bool) (parts : List Staged) (part : Staged) → list_all test (paths_of (parts ++ part ∷ [])) ≡ true → list_all test (paths_of parts) ≡ true
 front_passes test [] part h = refl
 front_passes test (first ∷ parts) part h = let both = both_pass (test first.path) _ h in join_pass (test first.path) _ both.0 (front_passes test parts part both.1)

@@ -1,5 +1,5 @@
--- `flush rules PATH` (pfctl(8), -F rules -a): the rules of one ruleset and the rulesets of anchors without a name below it go;
--- its tables stay. The path is begun anew.
+-- `flush rules PATH` (pfctl(8), Loads and sessions): the rules of one ruleset and the rulesets of anchors without a name below
+-- it go; its tables stay. The path is begun anew.
 use Rattle.std.specs.Prelude.{ℕ, not, List, [], ◌∷◌, Option, Some, None}
 use Rattle.std.specs.FinMap as finite
 use Rattle.std.specs.Option.{option_and_then}

@@ -1,4 +1,4 @@
--- The `table` lines (pfctl(8), -T): what they change of the tables of one ruleset, and what they are told.
+-- The `table` lines (pfctl(8), Tables): what they change of the tables of one ruleset, and what they are told.
 use Rattle.std.specs.Prelude.{◌≡◌, ℕ, List, [], ◌∷◌, is_none, Option, Some, None, if◌then◌else◌, count_by}
 use Rattle.std.specs.FinMap as finite
 use Rattle.pf_addr.specs.declared.addr.Addr.{Addr}

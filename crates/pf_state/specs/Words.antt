@@ -1,4 +1,4 @@
--- The words of a `table` line (pfctl(8), -T): an entry is an address or a prefix with a `!` right before it or not.
+-- The words of a `table` line (pfctl(8), Tables): an entry is an address or a prefix with a `!` right before it or not.
 use Rattle.std.specs.Prelude.{◌≡◌, ℕ, Bool, false, ◌==◌, List, [], ◌∷◌, Result, Ok, Err, if◌then◌else◌}
 use Rattle.pf_addr.specs.PrefixText.{IsPrefixText}
 use Rattle.pf_table.specs.declared.entry.Entry.{Entry}

@@ -1,8 +1,7 @@
 //! Payloads by paths.
-ghost use Rattle.std.specs.Prelude.{◌≡◌, IfOk, IfSome};
+ghost use Rattle.std.specs.Prelude.{◌≡◌, IfOk};
 ghost use Rattle.std.specs.FinMap as finite;
 ghost use Rattle.std.specs.Option.{option_copied};
-ghost use Rattle.pf_base.specs.Path.{child_path};
 ghost use Rattle.pf_tree.specs.Paths.{next_name};
 
 use pf_base::{List, Name, NoMemory, Path};

@@ -1,20 +1,11 @@
 //! Which rulesets go with a load: those of anchors without a name below the rulesets that it fills (pf.conf(5), ANCHORS).
 ghost use Rattle.std.specs.Prelude.{◌≡◌};
 ghost use Rattle.std.specs.Option.{option_copied};
-ghost use Rattle.pf_base.specs.Path.{is_reserved};
 ghost use Rattle.pf_tree.specs.Paths as paths;
 ghost use Rattle.pf_state.specs.Commits as says;
 
 use crate::ready::Staged;
 use pf_base::{Name, Path};
-
-// Whether a name is that of an anchor without a name: it begins with `_`.
-#[tactic(auto, unfolding(pf_base::specs::Path::is_reserved))]
-fn is_nameless(name: &Name) -> bool
-    ensures { result ≡ is_reserved name.now }
-{
-    matches!(name.bytes(), [b'_', ..])
-}
 
 // The name behind a path that another path begins with.
 fn name_behind<'a>(path: &[Name], at: &'a [Name]) -> Option<&'a Name>
@@ -40,7 +31,7 @@ fn is_nameless_below(path: &[Name], at: &[Name]) -> bool
     ensures { result ≡ paths.is_nameless_below path.now at.now }
 {
     match name_behind(path, at) {
-        Some(name) => is_nameless(name),
+        Some(name) => name.is_reserved(),
         None => false,
     }
 }

@@ -1,4 +1,4 @@
-//! `flush rules` (pfctl(8), -F).
+//! `flush rules` (pfctl(8), Loads and sessions).
 ghost use Rattle.std.specs.Prelude.{◌≡◌, ◌++◌, ◌<◌, ◌-◌, ◌^◌, OnErr, OnOk, true};
 ghost use Rattle.pf_tree.specs.Meaning.{is_prepared};
 ghost use Rattle.pf_state.specs.Flushes.{flushed, flushed_rulesets};

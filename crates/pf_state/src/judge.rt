@@ -1,5 +1,5 @@
 //! Whether a plan may be put in place.
-ghost use Rattle.std.specs.Prelude.{◌≡◌, IfOk, [], ◌∷◌, map, None};
+ghost use Rattle.std.specs.Prelude.{◌≡◌, IfOk, [], None};
 ghost use Rattle.pf_base.specs.OrderedMap.{map_of};
 ghost use Rattle.pf_tree.specs.Order.{path_cmp};
 ghost use Rattle.pf_state.specs.Judging.{Judged, call_refusal};
@@ -14,11 +14,13 @@ use pf_reply::{Overfull, Refusal};
 use std::alloc::Global;
 use std::collections::BTreeMap;
 
-/// The most rules as they are written that may stand, the most rulesets, and the most entries of declared tables.
+/// The most rules as they are written that may stand.
 pub(crate) const MOST_RULES: u64 = 131_072;
 
+/// The most rulesets.
 pub(crate) const MOST_RULESETS: u64 = 4_096;
 
+/// The most entries of declared tables.
 pub(crate) const MOST_ENTRIES: u64 = 262_144;
 
 /// The first limit that so many rules, rulesets and entries go past.

@@ -1,6 +1,6 @@
 //! The machine of script lines: the rulesets of the tree with their tables, the settings of the whole, the facts of the host,
 //! open sessions and tickets; what a load, a session's commit, a flush and a change of a table make of it, all at once or not
-//! at all; and why each is refused (pf(4), DIOCXBEGIN and DIOCXCOMMIT; pfctl(8), -f, -F and -T).
+//! at all; and why each is refused (pf(4), DIOCXBEGIN and DIOCXCOMMIT; pfctl(8), SCRIPT LINES).
 //! It stands on pf_optim and pf_shelf (rulesets and tables), pf_tree, pf_calls (chains of calls), pf_plan (what a load comes
 //! to), pf_host and pf_reply (refusals). The layer above reads script lines and files, and tells the replies.
 #![tactic(auto)]

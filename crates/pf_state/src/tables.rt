@@ -1,4 +1,4 @@
-//! Changes of declared tables (pfctl(8), -T).
+//! Changes of declared tables (pfctl(8), Tables).
 ghost use Rattle.std.specs.Prelude.{◌≡◌, ◌≢◌, ◌≤◌, Err, IfOk, IsSome, OnErr, OnOk, is_some, true};
 ghost use Rattle.std.specs.FinMap as finite;
 ghost use Rattle.pf_shelf.specs.Change.{answer};

@@ -25,8 +25,8 @@ fn unsigned(word: &[u8]) -> &[u8]
     }
 }
 
-/// The entry that a word is: an address or a prefix with a `!` right before it or not; None where it is none (pfctl(8), -T).
-/// Takes no memory.
+/// The entry that a word is: an address or a prefix with a `!` right before it or not; None where it is none (pfctl(8),
+/// Tables). Takes no memory.
 pub fn entry_of(word: &[u8]) -> Option<Entry>
     ensures found { IfSome result (IsEntryWord word.now) }
     ensures none { IfNone result ((entry : AnyEntry) → IsEntryWord word.now entry → ⊥) }

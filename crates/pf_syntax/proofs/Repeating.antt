@@ -1,5 +1,5 @@
 -- Parts in a row, one by one.
-use Rattle.std.proofs.Common.{◌≡◌, ℕ, zero, suc, ◌+◌, ◌-◌, ◌<◌, ◌≤◌, length, Bool, true, false, List, [], ◌∷◌, ◌++◌, Option, Some, None, refl, ap, sym, ◌∙◌, arith}
+use Rattle.std.proofs.Common.{◌≡◌, ℕ, zero, suc, ◌+◌, ◌-◌, ◌<◌, ◌≤◌, Bool, true, false, List, [], ◌∷◌, ◌++◌, Option, Some, None, refl, ap, sym, ◌∙◌, arith}
 use Rattle.std.specs.Prelude.{if◌then◌else◌}
 use Rattle.pf_syntax.specs.Symbols.{Symbols}
 use Rattle.pf_syntax.specs.Readings.{Reading, read_then, read_repeated}
@@ -41,10 +41,6 @@ repeat_fails ends step most value start is said =
 -- after so many parts of at most `most`, what is left is read as the whole
 pub record Kept {A : Type 0} (ends : Symbols → Bool) (step : A → Reading A) (most done : ℕ) (value : A) (start : Symbols) (whole : Option (A × Symbols)) : Type 0 where
   pub each : (left : ℕ) → done + left ≡ most → read_repeated ends step left value start ≡ whole
-
-pub kept_first : {A : Type 0} (ends : Symbols → Bool) (step : A → Reading A) (most : ℕ) (value : A) (start : Symbols) → most ≡ length start
-    → Kept ends step most 0 value start (read_repeated ends step (length start) value start)
-kept_first ends step most value start long = record { each = λ left sums. ap (λ n. read_repeated ends step n value start) (omega (arith, sums, long)) }
 
 pub kept_ends : {A : Type 0} {ends : Symbols → Bool} {step : A → Reading A} {most done : ℕ} {value : A} {start : Symbols} {whole : Option (A × Symbols)}
     → Kept ends step most done value start whole → done ≤ most → ends start ≡ true → whole ≡ Some (value, start)

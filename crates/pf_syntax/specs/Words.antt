@@ -29,13 +29,13 @@ any_word = symbol bare_text
 abbrev pub word_as : {A : Type 0} → (List ℕ → Option A) → Grammar A
 word_as means = symbol (λ next. option_and_then means (bare_text next))
 
--- neither a quote nor a backslash
-abbrev pub is_name_byte : ℕ → Bool
-is_name_byte byte = not (byte == 34) && not (byte == 92)
+-- may stand between quotes as it is: neither a quote nor a backslash
+abbrev pub is_quotable : ℕ → Bool
+is_quotable byte = not (byte == 34) && not (byte == 92)
 
 -- a name has 1 to 63 bytes, none of which is `"` or a backslash
 abbrev pub is_name : List ℕ → Bool
-is_name text = nat_le 1 (length text) && nat_le (length text) 63 && list_all is_name_byte text
+is_name text = nat_le 1 (length text) && nat_le (length text) 63 && list_all is_quotable text
 
 abbrev pub name_where : Bool → List ℕ → Option (List ℕ)
 name_where true text = Some text

@@ -1,5 +1,5 @@
 //! A place among the tokens of a statement, and what is taken there: words, names, numbers and signs.
-ghost use Rattle.std.specs.Prelude.{◌≡◌, ◌≤◌, ℕ, length, Some, IfOk, IfSome};
+ghost use Rattle.std.specs.Prelude.{◌≡◌, ◌≤◌, length, Some, IfOk, IfSome};
 ghost use Rattle.std.specs.Bool.{OnTrue, OnFalse};
 ghost use Rattle.pf_syntax.specs.Grammar.{sign, word};
 ghost use Rattle.pf_syntax.specs.Lists.{at_sign};

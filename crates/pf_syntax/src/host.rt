@@ -1,5 +1,4 @@
 //! Hosts (pf.conf(5), GRAMMAR, `hosts` and `host`).
-ghost use Rattle.std.specs.Prelude.{◌≡◌};
 ghost use Rattle.pf_syntax.specs.Hosts.{address, dynamic, host, host_word, plain_host, table_name};
 ghost use Rattle.pf_syntax.specs.Taking.{Takes};
 

@@ -19,6 +19,3 @@ pub use cursor::Cursor;
 pub use fault::{FormFault, Stop};
 pub use form::{HostForm, HostItem, IcmpItem, OpItem, TargetWords};
 pub use refusal::form_fault;
-
-#[cfg(test)]
-mod tests;

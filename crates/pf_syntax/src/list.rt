@@ -1,5 +1,5 @@
 //! Lists and brackets (pf.conf(5), GRAMMAR).
-ghost use Rattle.std.specs.Prelude.{◌≡◌, [], ◌∷◌, codes};
+ghost use Rattle.std.specs.Prelude.{[], ◌∷◌, codes};
 ghost use Rattle.pf_syntax.specs.Grammar.{until};
 ghost use Rattle.pf_syntax.specs.Lists.{at_sign, behind_comma, braced, in_brackets, list_of, more_items, with_comma};
 ghost use Rattle.pf_syntax.specs.Taking.{Takes};

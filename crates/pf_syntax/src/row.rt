@@ -1,5 +1,4 @@
 //! Parts up to the end of a statement.
-ghost use Rattle.std.specs.Prelude.{◌≡◌};
 ghost use Rattle.pf_syntax.specs.Grammar.{until};
 ghost use Rattle.pf_syntax.specs.Symbols.{is_end};
 ghost use Rattle.pf_syntax.specs.Taking.{Takes};

@@ -1,11 +1,11 @@
 //! Tests of the text of a token.
 ghost use Rattle.std.specs.Prelude.{◌≡◌};
 ghost use Rattle.std.specs.List.{list_all};
-ghost use Rattle.pf_syntax.specs.Words.{is_name, is_name_byte};
+ghost use Rattle.pf_syntax.specs.Words.{is_name, is_quotable};
 
 // No byte is a quote or a backslash.
 fn are_name_bytes(text: &[u8]) -> bool
-    ensures { result ≡ list_all is_name_byte text.now }
+    ensures { result ≡ list_all is_quotable text.now }
 {
     text.iter().all(|byte| *byte != b'"' && *byte != b'\\')
 }

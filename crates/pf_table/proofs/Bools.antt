@@ -13,9 +13,3 @@ beq-same true true e = refl
 beq-same true false e = cc
 beq-same false true e = cc
 beq-same false false e = refl
-
-pub beq-apart : (a b : Bool) → beq a b ≡ false → a ≢ b
-beq-apart true true e h = cc
-beq-apart true false e h = cc
-beq-apart false true e h = cc
-beq-apart false false e h = cc

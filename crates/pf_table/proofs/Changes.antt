@@ -22,9 +22,6 @@ use Rattle.pf_table.specs.Kept.{signs_in, IsKept}
 use Rattle.pf_table.proofs.Signs.{sign_in, sign_nowhere, antisymmetric, key_sign, absent_sign, signed-insert, signed-remove, resigned-IsTrie}
 use Rattle.pf_table.proofs.Bools.{beq-same}
 
-pub record Present (m : Signs) (e : Entry) : Type 0 where
-  pub there : is_some (finite.get m e.prefix) ≡ true
-
 no_some : (o : Option Bool) → is_some o ≡ true → (IsTrue false → o ≡ None) × (o ≡ None → IsTrue false)
 no_some None h = (λ k. cc, λ e. h)
 no_some (Some n) h = (λ k. cc, λ e. cc)

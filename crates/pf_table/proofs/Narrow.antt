@@ -76,10 +76,6 @@ module _ (nodes : List Node) (key : Prefix) (trie : IsTrie nodes) where
     longest = λ j lj k le more. h.longest j lj k (last.longest j lj k) more;
   }
 
--- no nodes, no signs
-pub sign_nowhere_at_all : (nodes : List Node) (key : Prefix) → length nodes ≡ 0 → IsSignOf nodes key key.len None
-sign_nowhere_at_all nodes key e = record { none = λ j lj k le. absurd (omega arith) }
-
 -- the two roots alone
 root_child : (i : ℕ) (b : Bool) (c : ℕ) → child (node_at both_roots i) b ≢ Some c
 root_child zero true c e = cc

@@ -80,25 +80,12 @@ absent_below nodes key at d p h lt = record {
       absurd (omega arith);
 }
 
-pub place_alone : (nodes : List Node) (key : Prefix) (at : ℕ) → IsTrie nodes → IsDeepest nodes key at → len_at nodes at < key.len → child (node_at nodes at) (side key.addr (len_at nodes at)) ≡ None → CanGrow nodes at key
-place_alone nodes key at trie d lt none = record {
-  trie = trie;
-  inside = d.inside;
-  above = record { over = d.covers; shorter = lt };
-  absent = absent_below nodes key at d key (covers-itself key) lt;
-  below = λ c e. absurd (not_some c (sym none ∙ e));
 }
-
-pub held_here : (nodes : List Node) (key : Prefix) (at : ℕ) → IsDeepest nodes key at → len_at nodes at ≡ key.len → IsHeldAt nodes key at
-held_here nodes key at d e = record { inside = d.inside; here = covers-same _ _ d.covers e }
 
 pub held_grown : (nodes : List Node) (at : ℕ) (key : Prefix) → CanGrow nodes at key → IsHeldAt (grown nodes at key) key (length nodes)
 held_grown nodes at key can =
     let g = grown-Grows nodes at key can.inside in
     record { inside = let l = g.long in omega arith; here = g.added }
-
-pub longer-grown : (nodes : List Node) (at : ℕ) (key : Prefix) → at < length nodes → length nodes ≤ length (grown nodes at key)
-longer-grown nodes at key lt = let g = grown-Grows nodes at key lt in let l = g.long in omega arith
 
 module _ (nodes : List Node) (key : Prefix) (at below : ℕ) (trie : IsTrie nodes) (d : IsDeepest nodes key at) (lt : len_at nodes at < key.len)
     (link : child (node_at nodes at) (side key.addr (len_at nodes at)) ≡ Some below) where
@@ -236,9 +223,6 @@ root_inside nodes (V6 n) h = h.two
 -- what a node answers of what lies below it
 pub link_is : (nodes : List Node) (at : ℕ) (key : Prefix) (node : Node) (b : Bool) (r o : Option ℕ) → node ≡ node_at nodes at → b ≡ side key.addr node.prefix.len → r ≡ child node b → r ≡ o → child (node_at nodes at) (side key.addr (len_at nodes at)) ≡ o
 link_is nodes at key node b r o e f g h = ap (λ (t : Node). child t (side key.addr t.prefix.len)) (sym e) ∙ ap (child node) (sym f) ∙ sym g ∙ h
-
-pub len_is : (nodes : List Node) (at : ℕ) (node : Node) → node ≡ node_at nodes at → node.prefix.len ≡ len_at nodes at
-len_is nodes at node e = ap (λ (t : Node). t.prefix.len) e
 
 pub at_is : (nodes xs : List Node) (i : ℕ) (node : Node) → node ≡ node_at xs i → xs ≡ nodes → node ≡ node_at nodes i
 at_is nodes xs i node e f = e ∙ ap (λ (t : List Node). node_at t i) f

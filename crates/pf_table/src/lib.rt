@@ -11,6 +11,3 @@ mod trie;
 
 pub use entry::Entry;
 pub use table::{Table, the_longest_decides};
-
-#[cfg(test)]
-mod tests;

@@ -9,7 +9,7 @@ ghost use Rattle.pf_addr.specs.PrefixOrder.{prefix_cmp};
 ghost use Rattle.pf_table.specs.Kept.{signs_in};
 ghost use Rattle.pf_table.specs.Trie.{IsTrie, HasRoots, both_roots, root_of, node_at, prefix_at, len_at, over, grown, listed, CanGrow, IsNext, IsDeepest, IsHeldAt, IsFound, IsSignOf, resigned};
 
-use crate::bits::{front, number, shared, side};
+use crate::bits::{front, shared, side};
 use crate::node::Node;
 use pf_addr::{Addr, Prefix};
 use pf_base::NoMemory;
@@ -21,7 +21,8 @@ pub(crate) fn root(addr: &Addr) -> usize
     ensures value { result ≡ root_of addr.now }
     ensures range { IsAddr addr.now }
 {
-    let _bits = number(addr);
+    // Its clauses say that the address's number is within its family's width, which is the range.
+    let _bits = addr.number();
     match addr {
         Addr::V4(_) => 0,
         Addr::V6(_) => 1,

@@ -24,9 +24,6 @@ IsQuoteByte-from_class quote is = record {
 abbrev closed_here : List Cell → Quoted
 closed_here cells = record { text = []; known = true; closed = true; after = cells }
 
-abbrev cut_here : Quoted
-cut_here = record { text = []; known = true; closed = false; after = [] }
-
 pub quoted_closed : (quote : ℕ) (cell : Cell) (cells : List Cell) → (cell.byte == quote) ≡ true → quoted_from quote (cell ∷ cells) ≡ closed_here cells
 unfolding quoted_from
 quoted_closed quote cell [] e = rw e refl

@@ -21,6 +21,3 @@ pub use pieces::{
 };
 pub use reader::Reader;
 pub use token::{Cause, Fault, Lexeme, Token, TokenKind};
-
-#[cfg(test)]
-mod tests;

@@ -9,6 +9,3 @@ pub mod tree;
 
 pub use blank::Blank;
 pub use tree::Tree;
-
-#[cfg(test)]
-mod tests;

@@ -42,14 +42,6 @@ impl<P: Blank> Model for Node<P> {
     ghost size_decreases = { λ a h. prepared_fall (λ child. child.value.prepared) tt a.children.entries h };
 }
 
-// Whether a name is that of an anchor without a name: it begins with `_`.
-#[tactic(auto, unfolding(pf_base::specs::Path::is_reserved))]
-fn is_nameless(name: &Name) -> bool
-    ensures { result ≡ is_reserved name.now }
-{
-    matches!(name.bytes(), [b'_', ..])
-}
-
 // Adds a path where something stands there.
 fn add_path(there: bool, at: &Path, paths: &mut List<Path>) -> Result<(), NoMemory>
     ensures { OnOk result (paths.new ≡ paths.old ++ (if there then at.now ∷ [] else [])) }
@@ -149,6 +141,7 @@ impl<P: Blank> Node<P> {
     {
         add_path(!self.payload.is_blank(), at, paths)?;
         for (name, child) in &self.children {
+            // What the child's type keeps of it, which the proof of its paths must know.
             let _payload = &child.payload;
             let Some(below) = at.child(name) else {
                 unreachable!()
@@ -252,7 +245,7 @@ impl<P: Blank> Node<P> {
                 ensures payloads { child.new.value.payloads ≡ (if is_reserved name.now then fin.empty else child.old.value.payloads) }
                 ensures prepared { child.new.value.prepared ≡ child.old.value.prepared }
             {
-                if is_nameless(name) {
+                if name.is_reserved() {
                     child.blank_all();
                 }
                 true

@@ -1,12 +1,11 @@
 //! The prefixes that a host word means (pf.conf(5), PARAMETERS, from).
-ghost use Rattle.std.specs.Prelude.{◌≡◌, ◌≤◌, ◌||◌, ◌&&◌, length, map, Some, None, IfOk, if◌then◌else◌};
+ghost use Rattle.std.specs.Prelude.{◌≡◌, ◌≤◌, ◌&&◌, length, map, Some, None, IfOk, if◌then◌else◌};
 ghost use Rattle.std.specs.Option.{option_copied};
 ghost use Rattle.pf_addr.specs.Prefix.{whole};
 ghost use Rattle.pf_host.specs.Queries.{has_host, knows};
 ghost use Rattle.pf_word.specs.Coming.{Comes};
 ghost use Rattle.pf_word.specs.Hosts as says;
 ghost use Rattle.pf_word.specs.Hosts.{AddressMeans, HostWordMeans, MaskedMeans, WordMeans, meaning_of_name};
-ghost use Rattle.pf_word.specs.Suffixes.{taken_apart};
 ghost use Rattle.pf_word.specs.Words.{is_name};
 
 use crate::fault::ExpandFault;
@@ -105,8 +104,8 @@ fn word_prefixes(alloc: Global, word: &[u8], facts: &Facts) -> Result<List<Prefi
     }
 }
 
-// The fault of a word with a mask.
-fn mask_fault(word: &[u8], fault: AddrFault) -> FaultKind
+/// The fault of a word that is no prefix: `MaskTooLong` where only its mask is too great, else `NotAnAddress` with the word.
+pub fn mask_fault(word: &[u8], fault: AddrFault) -> FaultKind
     requires { 1 ≤ length word.now }
     ensures { result ≡ says.mask_fault word.now fault }
 {
@@ -130,12 +129,9 @@ fn masked_prefixes(alloc: Global, word: &[u8], mask: &[u8]) -> Result<List<Prefi
     }
 }
 
-/// The prefixes that a host word means, in order, by the first of these that fits: an address; `self`, or an interface or
-/// group that the facts know, with `:network`, `:0` or both behind it; a host of the facts. With a mask the two are one
-/// prefix, and nothing else is tried. `MaskTooLong(n)` comes exactly where only the mask's number is too great,
-/// `UnknownInterface(word)` exactly where a word without a mask has `:network` or `:0` behind a name that the facts don't know
-/// and no other meaning, and `NotAnAddress(word)` exactly where a word has no meaning else. The entry of a table means the
-/// same (pf.conf(5), PARAMETERS, from, and TABLES).
+/// The prefixes that a host word means (pf.conf(5), PARAMETERS, from, and TABLES): an address with or without a mask, else a
+/// name that the facts know, with or without `:network` and `:0`, else a host of the facts. A word of no meaning is
+/// `MaskTooLong` where only the mask is too great, `UnknownInterface` where `:network` or `:0` follows, else `NotAnAddress`.
 pub fn host_prefixes(
     alloc: Global,
     word: &[u8],

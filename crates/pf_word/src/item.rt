@@ -3,7 +3,7 @@ ghost use Rattle.std.specs.Prelude.{◌≡◌, ◌≤◌, ◌++◌, length, true
 ghost use Rattle.std.specs.List.{list_all};
 ghost use Rattle.std.specs.Option.{option_copied};
 ghost use Rattle.pf_word.specs.Conditions.{host_has_words};
-ghost use Rattle.pf_word.specs.Hosts.{EndsMean, HostMeans, HostsMean, IsRange, IsWord, RangeMeans, dynamic_test, prefix_tests, tests_of_word};
+ghost use Rattle.pf_word.specs.Hosts.{EndsMean, HostMeans, HostsMean, IsRange, IsWord, RangeMeans, dynamic_test, prefix_tests};
 ghost use Rattle.pf_word.specs.Words.{Adds, joined};
 
 use crate::fault::ExpandFault;

@@ -18,7 +18,7 @@ pub mod target;
 pub mod words;
 
 pub use fault::ExpandFault;
-pub use host::host_prefixes;
+pub use host::{host_prefixes, mask_fault};
 pub use item::read_hosts;
 pub use kind::{read_icmp, read_protos};
 pub use laws::{each_word_means_something, words_have_one_meaning};
@@ -26,6 +26,3 @@ pub use number::{IdKind, read_ids, read_ports};
 pub use table::is_table_name;
 pub use target::read_target;
 pub use words::Words;
-
-#[cfg(test)]
-mod tests;

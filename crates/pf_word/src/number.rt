@@ -17,9 +17,11 @@ use pf_ops::{Op16, Op32, OpKind};
 use pf_syntax::OpItem;
 use std::alloc::Global;
 
-const MOST_PORT: u32 = 65535;
+/// The greatest port.
+const MOST_PORT: u32 = 65_535;
 
-const MOST_ID: u32 = 4294967295;
+/// The greatest number of a user or a group.
+const MOST_ID: u32 = 4_294_967_295;
 
 /// Whose numbers are tested.
 #[derive(Clone, Copy, Debug, PartialEq, Eq)]

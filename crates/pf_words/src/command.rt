@@ -1,5 +1,5 @@
 //! The program as clap's command.
-ghost use Rattle.std.specs.Prelude.{◌≡◌, IfOk, false, string_bytes};
+ghost use Rattle.std.specs.Prelude.{◌≡◌, IfOk, false};
 ghost use Rattle.clap.specs.Words.{app_of, rule_of};
 ghost use Rattle.pf_words.specs.Program.{bare_program, flag_rule, option_rule, program, with_options, with_tasks};
 

@@ -8,6 +8,3 @@ pub mod said;
 
 pub use reading::read_words;
 pub use said::{LoadWords, Said, WordsFault};
-
-#[cfg(test)]
-mod tests;

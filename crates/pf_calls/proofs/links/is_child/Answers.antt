@@ -10,7 +10,7 @@ returns-then-eq c =
     let same = (paths_decide c.in-Some.front.now c.names-in-Some.result.now).0 (sym c.eq.ensures ∙ c.if-eq.true) ∙ c.names-in-Some.ensures.same in
     let is = sym c.names.ensures.same ∙ c.in-Some.ensures.cases.0 in
     let told = told_named c.args.at.now c.args.path.now c.in-Some.front.now c.in-Some.name.now is same in
-    subst (λ b. Decides (not b) (IsChild c.args.at.now c.args.path.now)) (sym c.is_nameless.ensures) told
+    subst (λ b. Decides (not b) (IsChild c.args.at.now c.args.path.now)) (sym c.is_reserved.ensures) told
 
 pub returns-else-eq : goal.returns-else-eq
 returns-else-eq c =

@@ -20,7 +20,7 @@ pub returns-in-Err : goal.returns-in-Err
 returns-in-Err c = λ facts.
     let negated = c.without_sign-negated.result.0 in
     let word = c.without_sign-negated.result.1.now in
-    gathers_fault facts (word_at c.args.place c.args.text.now) c.fault_of.result c.args.gathered.now c.add_fault.new.gathered
-    (by_sign c.args.text.now negated word (Err c.fault_of.result) c.without_sign-negated.ensures.value
-    (rw c.fault_of.ensures (word_fails negated word c.in-Err.fault c.in-Err.ensures.only c.in-Err.ensures.too_long c.in-Err.ensures.not_an_address)))
+    gathers_fault facts (word_at c.args.place c.args.text.now) c.mask_fault.result c.args.gathered.now c.add_fault.new.gathered
+    (by_sign c.args.text.now negated word (Err c.mask_fault.result) c.without_sign-negated.ensures.value
+    (rw c.mask_fault.ensures (word_fails negated word c.in-Err.fault c.in-Err.ensures.only c.in-Err.ensures.too_long c.in-Err.ensures.not_an_address)))
     c.add_fault.ensures

@@ -194,15 +194,15 @@ walk_called-returns-else-call-clause-counted g t c =
 
 -- ---- a child
 
-pub walk_child-returns-then-is_nameless-clause-walk : goal.walk_child-returns-then-is_nameless-clause-walk
-walk_child-returns-then-is_nameless-clause-walk g t c =
+pub walk_child-returns-then-is_reserved-clause-walk : goal.walk_child-returns-then-is_reserved-clause-walk
+walk_child-returns-then-is_reserved-clause-walk g t c =
     let walk = g.P.Probe.walk c.args.probe.now in
-    if_true (is_reserved c.args.name.now) walk (walk_left c.args.site.now.tree.now.payloads c.args.site.now.facts.now c.args.left (c.args.at.now ++ c.args.name.now ∷ []) walk) (sym c.is_nameless.ensures ∙ c.if-is_nameless.true)
+    if_true (is_reserved c.args.name.now) walk (walk_left c.args.site.now.tree.now.payloads c.args.site.now.facts.now c.args.left (c.args.at.now ++ c.args.name.now ∷ []) walk) (sym c.is_reserved.ensures ∙ c.if-is_reserved.true)
 
-pub walk_child-returns-then-is_nameless-clause-counted : goal.walk_child-returns-then-is_nameless-clause-counted
-walk_child-returns-then-is_nameless-clause-counted g t c =
+pub walk_child-returns-then-is_reserved-clause-counted : goal.walk_child-returns-then-is_reserved-clause-counted
+walk_child-returns-then-is_reserved-clause-counted g t c =
     let walk = g.P.Probe.walk c.args.probe.now in
-    let none = if_true (is_reserved c.args.name.now) 0 (tests_left c.args.site.now.tree.now.payloads c.args.site.now.facts.now c.args.left (c.args.at.now ++ c.args.name.now ∷ []) walk) (sym c.is_nameless.ensures ∙ c.if-is_nameless.true) in
+    let none = if_true (is_reserved c.args.name.now) 0 (tests_left c.args.site.now.tree.now.payloads c.args.site.now.facts.now c.args.left (c.args.at.now ++ c.args.name.now ∷ []) walk) (sym c.is_reserved.ensures ∙ c.if-is_reserved.true) in
     omega (arith, none)
 
 pub walk_child-returns-in_default-clause-walk : goal.walk_child-returns-in_default-clause-walk
@@ -222,7 +222,7 @@ walk_child-returns-clause-walk g t c =
     let same : c.in-Some.child ≡ c.args.at.now ++ c.args.name.now ∷ [] = cc in
     c.walk_ruleset.ensures.walk
     ∙ ap (λ (p : List (List ℕ)). walk_left trees facts c.args.left p walk) same
-    ∙ if_false (is_reserved c.args.name.now) walk (walk_left trees facts c.args.left (c.args.at.now ++ c.args.name.now ∷ []) walk) (sym c.is_nameless.ensures ∙ c.if-is_nameless.false)
+    ∙ if_false (is_reserved c.args.name.now) walk (walk_left trees facts c.args.left (c.args.at.now ++ c.args.name.now ∷ []) walk) (sym c.is_reserved.ensures ∙ c.if-is_reserved.false)
 
 pub walk_child-returns-clause-counted : goal.walk_child-returns-clause-counted
 walk_child-returns-clause-counted g t c =
@@ -234,7 +234,7 @@ walk_child-returns-clause-counted g t c =
     c.walk_ruleset.ensures.counted
     ∙ ap (λ (n : ℕ). c.args.steps.now + n)
     (ap (λ (p : List (List ℕ)). tests_left trees facts c.args.left p walk) same
-    ∙ if_false (is_reserved c.args.name.now) 0 (tests_left trees facts c.args.left (c.args.at.now ++ c.args.name.now ∷ []) walk) (sym c.is_nameless.ensures ∙ c.if-is_nameless.false))
+    ∙ if_false (is_reserved c.args.name.now) 0 (tests_left trees facts c.args.left (c.args.at.now ++ c.args.name.now ∷ []) walk) (sym c.is_reserved.ensures ∙ c.if-is_reserved.false))
 
 -- ---- children
 

@@ -1,8 +1,8 @@
-use Rattle.std.proofs.Common.{◌≤◌, ◌++◌, List, Option, length}
-use Rattle.pf_source.specs.Asks.{StaysHeld}
+use Rattle.std.proofs.Common.{◌≤◌, ◌++◌, List, [], Option, length}
 use Rattle.pf_source.specs.Told.{Told, file_of}
 use Rattle.pf_lexer.specs.declared.deed.Statement.{Statement}
 use Rattle.pf_lexer.specs.declared.fault.LexFault.{LexFault}
+use Rattle.pf_lexer.specs.Calls.{AsksAndReads, IsGoing}
 use Rattle.pf_lexer.specs.Going.{stage_weight}
 use Rattle.pf_lexer.specs.ReadSoFar.{ReadSoFar}
 use Rattle.pf_lexer.specs.Units.{Handed}
@@ -13,7 +13,8 @@ abbrev pub invariant-loop-statement : goal.invariant-loop-statement
 invariant-loop-statement g l = record {
   handed : Told (g.F.Files.tells l.fn.files).held (λ held. (rest : List Statement) (fault : Option LexFault) (later : ReadSoFar)
       → Handed (file_of held) l.lexer.stage l.reads rest fault later → Handed (file_of held) l.fn.lexer.stage l.fn.reads (l.statements.items ++ rest) fault later);
-  held : StaysHeld (g.F.Files.tells l.fn.files) (g.F.Files.tells l.files);
+  asks : AsksAndReads [] (g.F.Files.tells l.fn.files) (g.F.Files.tells l.files) l.fn.reads l.reads;
+  going : IsGoing l.lexer.stage;
   known : l.lexer.known ≤ length l.reads.names;
 }
 

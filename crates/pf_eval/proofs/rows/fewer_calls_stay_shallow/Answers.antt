@@ -1,5 +1,0 @@
-use Rattle.pf_eval.proofs.Fewer.{stays_shallow}
-use Rattle.pf_eval.proofs.rows.fewer_calls_stay_shallow.Goals as goal
-
-pub returns : goal.returns
-returns c = λ less more most fewer shallow. stays_shallow less more fewer most shallow
