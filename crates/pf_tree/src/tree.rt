@@ -94,6 +94,7 @@ impl<P: Blank> Tree<P> {
         ensures payloads { (at : Items (Items ℕ)) → fin.contains_key self.now.payloads at ≡ true → IsPath at }
         ensures prepared { (at : Items (Items ℕ)) → is_prepared self.now at ≡ true → IsPath at }
     {
+        // What the tree's type keeps of its root, which is the law.
         let _root = &self.root;
     }
 
