@@ -34,8 +34,6 @@ reaches_next rows f calls i call a b c lt is first second =
     let one = append-nil (f call) in
     subst (λ ps. Reaches rows a ps c) (sym (front ∙ ap (λ qs. flat_map f (take i calls) ++ qs) one)) (reaches_more rows a b c (flat_map f (take i calls)) (f call) first second)
 
-}
-
 -- the place of a path that one row has
 pub reaches_place : (rows : List CallRow) (links : List ℕ) (path : List (List ℕ)) (place : ℕ) → ((i j : ℕ) → i < length rows → j < length rows → path_at rows i ≡ path_at rows j → i ≡ j) → IsPlace rows path place → Reaches rows links (path ∷ []) (links ++ place ∷ [])
 reaches_place rows links path place apart here = record {

@@ -65,8 +65,6 @@ search_ended links start seen search = (
   λ cycle. seen_over links start seen search cycle.more start start search.begun cycle.leads,
 )
 
-}
-
 -- a place that was seen before
 pub mark_seen : (seen : List Bool) (todo places : List ℕ) (seen' : List Bool) (todo' : List ℕ) (place : ℕ) → IsMarked seen todo places seen' todo' → is_seen seen' place ≡ true → IsMarked seen todo (places ++ place ∷ []) seen' todo'
 mark_seen seen todo places seen' todo' place mark here = record {

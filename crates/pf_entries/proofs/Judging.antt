@@ -203,8 +203,6 @@ failed_comes disk facts tables form place reads later (stops.Fault fault) read =
 failed_comes disk facts tables form place reads later (stops.Unread name) read = read
 failed_comes disk facts tables form place reads later stops.NoMemory read = tt
 
-}
-
 -- a file that had a number has it later
 pub still_in : (old new : List (List ℕ)) (file : ℕ) → GoesOn old new → file < length old → file < length new
 still_in old new file more h = let longer : length new ≡ length old + length more.more = ap length more.is ∙ length-append old more.more in omega arith

@@ -127,8 +127,6 @@ service_sound before name word number new is cause =
       | Full ↦ λ h. no false refl h
     ]
 
-}
-
 pub host_sound : (before : List Line) (name word : List ℕ) (address : Addr) → IsAddrText word address → (cause : FactsCause) → HasCause before (line_with Host name word) cause → ⊥
 host_sound before name word address is cause =
     elim cause as (λ o. HasCause before (line_with Host name word) o → ⊥) [
@@ -143,10 +141,6 @@ host_sound before name word address is cause =
 known : (b : Bool) → b ≡ true → not b ≡ true → ⊥
 known true e h = cc
 known false e h = cc
-
-}
-
-}
 
 pub address_full : (before : List Line) (name word : List ℕ) (address : Masked) → is_named Interface before name ≡ true → IsMaskedText word address → nat_le 1024 (length (lines_about Address before)) ≡ true → IsFirst (HasCause before (line_with Address name word)) Full
 address_full before name word address named is full = record {
@@ -171,10 +165,6 @@ address_sound before name word address named is room cause =
       | BadNumber ↦ λ h. h
       | Full ↦ λ h. no (nat_le 1024 (length (lines_about Address before))) room h
     ]
-
-}
-
-}
 
 pub interface_sound : (before : List Line) (name : List ℕ) (rest : List (List ℕ)) → is_named Interface before name ≡ false → nat_le 1024 (length (lines_about Interface before)) ≡ false → (cause : FactsCause) → HasCause before (record { kind = Interface; name = name; rest = rest }) cause → ⊥
 interface_sound before name rest new room cause =

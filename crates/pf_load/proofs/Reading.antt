@@ -38,8 +38,6 @@ use Rattle.pf_load.specs.Statements.{Comes, DeclComes, DeclStands, RuleComes, Sa
 use Rattle.pf_load.specs.declared.way.Way.{Way}
 use Rattle.pf_load.specs.declared.way.Way.TheVariants.{Nothing, Rules}
 
-}
-
 -- an answer of one meaning has another that follows from it
 pub short_to : {A : Type 0} (P Q : Result A Stop → Type 0) → ((r : Result A Stop) → P r → Q r) → (r : Result A Stop) → UnlessShort P r → UnlessShort Q r
 short_to P Q f (Ok x) h = f (Ok x) h

@@ -80,8 +80,6 @@ absent_below nodes key at d p h lt = record {
       absurd (omega arith);
 }
 
-}
-
 pub held_grown : (nodes : List Node) (at : ℕ) (key : Prefix) → CanGrow nodes at key → IsHeldAt (grown nodes at key) key (length nodes)
 held_grown nodes at key can =
     let g = grown-Grows nodes at key can.inside in
