@@ -93,19 +93,11 @@ fn list_tables(alloc: Global, node: Option<&Node>) -> Result<Vec<u8>, NoMemory>
     Ok(reply)
 }
 
-// Whether a name is that of an anchor without a name: it begins with `_`.
-#[tactic(auto, unfolding(pf_base::specs::Path::is_reserved))]
-fn is_nameless(name: &Name) -> bool
-    ensures { result ≡ is_reserved name.now }
-{
-    matches!(name.bytes(), [b'_', ..])
-}
-
 // Puts a name behind others, unless it is that of an anchor without a name.
 fn add_named(names: &mut List<Name>, name: &Name) -> Result<(), NoMemory>
     ensures { OnOk result (names.new ≡ names.old ++ (if is_reserved name.now then [] else name.now ∷ [])) }
 {
-    if is_nameless(name) {
+    if name.is_reserved() {
         return Ok(());
     }
     names.push_copy(name)
