@@ -1,0 +1,7 @@
+mod Appearing
+mod Carrying
+mod Examples
+mod Finding
+mod Limited
+mod Saying
+mod Sums

@@ -1,0 +1,11 @@
+//! What is true of every machine that a script reaches (pfctl(8), SCRIPT LINES): each ruleset that stands says something, all that
+//! stands is within the limits, and a plan that is accepted appears whole.
+//! There is no code here: its functions are laws, which a caller has by their clauses. It stands on pf_engine (what each line does)
+//! and pf_state (the machine, and what may become of it). Nothing stands above it yet.
+#![tactic(auto)]
+
+pub mod laws;
+
+pub use laws::{
+    an_accepted_plan_appears_whole, what_stands_is_within_the_limits, what_stands_says_something,
+};
