@@ -25,10 +25,10 @@ use Rattle.pf_state.specs.declared.ready.Opened.{Opened}
 use Rattle.pf_state.specs.declared.ready.Ready.{Ready}
 use Rattle.pf_tree.specs.GrownLaws.{name_total, path_same, path_total}
 use Rattle.pf_tree.specs.Order.{path_cmp}
-use Rattle.pf_engine.specs.LoadLines.{LineComes, LoadDoes, Loading, PutsInPlace, filled_of}
-use Rattle.pf_engine.specs.SessionLines.{CommitOf, Commits}
+use Rattle.pf_engine.specs.LoadLines.{LineComes, LoadDoes, Loading, filled_of}
+use Rattle.pf_engine.specs.SessionLines.{CommitOf}
 use Rattle.pf_engine.specs.Step.{LineDoes, step}
-use Rattle.pf_engine.specs.Steps.{done, done_unless, refused}
+use Rattle.pf_engine.specs.Steps.{done_unless, refused}
 use Rattle.pf_standing.specs.Appearing.{AppearsByCommit, AppearsByLoad}
 use Rattle.pf_standing.proofs.Finding.{name_tied, name_untied}
 use Rattle.pf_standing.proofs.Saying.{IsOneReplacement}

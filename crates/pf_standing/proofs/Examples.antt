@@ -1,13 +1,10 @@
 -- Small cases, computed with the definitions.
-use Rattle.std.proofs.Common.{◌≡◌, false, List, [], ◌∷◌, None, refl}
-use Rattle.std.specs.FinMap as finite
+use Rattle.std.proofs.Common.{◌≡◌, ℕ, false, List, [], ◌∷◌, None, refl}
 use Rattle.pf_base.specs.declared.kind.Level.TheVariants as levels
 use Rattle.pf_optim.specs.Node.{is_bare}
-use Rattle.pf_optim.specs.Ruleset.{Written, written_of}
+use Rattle.pf_optim.specs.Ruleset.{written_of}
 use Rattle.pf_rule.specs.declared.rule.Rule.{Rule}
-use Rattle.pf_shelf.specs.Shelf.{Tables, name_cmp}
-use Rattle.pf_state.specs.Commits.{shown_node}
-use Rattle.pf_state.specs.declared.ready.Ready.{Ready}
+use Rattle.pf_shelf.specs.Shelf.{Tables}
 use Rattle.pf_state.specs.Limits.{planned_rules}
 use Rattle.pf_standing.specs.Standing.{IsPlain}
 
@@ -26,6 +23,7 @@ level_alone plain = absurd (basic_none (plain.level refl))
 one_rule : (rule : Rule) (tables : Tables) → is_bare (written_of (rule ∷ []) levels.Basic (1 ∷ [])) tables ≡ false
 one_rule rule tables = refl
 
--- a plan of no ruleset has no rule
-empty_plan : planned_rules (record { parts = []; whole = None }) ≡ 0
-empty_plan = refl
+-- a plan's rules are those of all its rulesets
+two_rulesets : (path other : List (List ℕ)) (a b c : Rule)
+    → planned_rules (record { parts = record { path = path; rules = written_of (a ∷ []) levels.Basic []; tables = [] } ∷ record { path = other; rules = written_of (b ∷ c ∷ []) levels.None []; tables = [] } ∷ []; whole = None }) ≡ 3
+two_rulesets path other a b c = refl

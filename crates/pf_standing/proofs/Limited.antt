@@ -1,5 +1,5 @@
 -- No more stands than the limits say: so it is at first, and each line keeps it.
-use Rattle.std.proofs.Common.{◌≡◌, ℕ, ◌+◌, ◌<◌, ◌≤◌, Bool, true, false, cond, not, List, [], ◌∷◌, length, Option, Some, None, refl, sym, ap, subst, ◌∙◌, arith, if◌then◌else◌}
+use Rattle.std.proofs.Common.{◌≡◌, ℕ, ◌+◌, ◌<◌, ◌≤◌, Bool, true, false, cond, not, List, [], ◌∷◌, length, Option, Some, None, refl, sym, subst, ◌∙◌, arith, if◌then◌else◌}
 use Rattle.std.specs.Prelude.{is_some, nat_le, nat_lt}
 use Rattle.std.specs.FinMap as finite
 use Rattle.std.specs.List.{sum_by}
@@ -15,7 +15,6 @@ use Rattle.pf_reply.specs.declared.refusal.Refusal.TheVariants as refusals
 use Rattle.pf_shelf.specs.Change.{changed_at}
 use Rattle.pf_shelf.specs.Shelf.{Tables, name_cmp, total}
 use Rattle.pf_shelf.specs.declared.change.ChangeKind.{ChangeKind}
-use Rattle.pf_state.specs.Commits.{committed}
 use Rattle.pf_state.specs.Flushes.{flushed_rulesets, left_of, without_rules}
 use Rattle.pf_state.specs.Limits.{first_of, limits, most_entries, most_rules, most_rulesets, over, planned_entries, planned_rules}
 use Rattle.pf_state.specs.Machine.{empty_machine}
@@ -24,7 +23,6 @@ use Rattle.pf_state.specs.Sessions.{entry_refusal, most_sessions, open_refusal}
 use Rattle.pf_state.specs.Tables.{change_refusal, changed_rulesets, with_change}
 use Rattle.pf_state.specs.declared.machine.Machine.{Machine}
 use Rattle.pf_state.specs.declared.ready.Opened.{Opened}
-use Rattle.pf_state.specs.declared.ready.Ready.{Ready}
 use Rattle.pf_table.specs.declared.entry.Entry.{Entry}
 use Rattle.pf_tree.specs.GrownLaws.{name_same, name_total, path_same, path_total}
 use Rattle.pf_tree.specs.Meaning.{put_payload}

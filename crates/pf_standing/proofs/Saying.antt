@@ -1,9 +1,9 @@
 -- Each ruleset that stands has a rule or a table: so it is at first, and loads, commits, flushes and changes of tables keep it.
-use Rattle.std.proofs.Common.{◌≡◌, ℕ, Bool, true, false, cond, not, List, [], ◌∷◌, length, Option, Some, None, refl, sym, ap, subst, ◌∙◌, if◌then◌else◌}
+use Rattle.std.proofs.Common.{◌≡◌, ℕ, Bool, true, false, cond, not, List, [], length, Option, Some, None, refl, sym, ap, subst, ◌∙◌, if◌then◌else◌}
 use Rattle.std.specs.Prelude.{◌&&◌, ◌==◌, Contains}
 use Rattle.std.specs.FinMap as finite
 use Rattle.std.specs.Option.{option_and_then}
-use Rattle.std.specs.Ordering.{eq_by_cmp, is_eq}
+use Rattle.std.specs.Ordering.{eq_by_cmp}
 use Rattle.std.proofs.lemmas.Bool.Decides.{Decides-eqb}
 use Rattle.pf_base.specs.declared.kind.Level.TheVariants.{None as at_no_level}
 use Rattle.pf_calls.specs.Calls.{path_eq}
@@ -17,10 +17,9 @@ use Rattle.pf_state.specs.Commits.{committed, is_cleared, node_of, part_at, show
 use Rattle.pf_state.specs.Flushes.{flushed_rulesets, left_of, without_rules}
 use Rattle.pf_state.specs.Machine.{empty_machine}
 use Rattle.pf_state.specs.Rulesets.{Rulesets}
-use Rattle.pf_state.specs.Tables.{changed_rulesets, with_change}
+use Rattle.pf_state.specs.Tables.{with_change}
 use Rattle.pf_state.specs.declared.machine.Machine.{Machine}
 use Rattle.pf_state.specs.declared.ready.Opened.{Opened}
-use Rattle.pf_state.specs.declared.ready.Ready.{Ready}
 use Rattle.pf_state.specs.declared.ready.Staged.{Staged}
 use Rattle.pf_table.specs.declared.entry.Entry.{Entry}
 use Rattle.pf_tree.specs.GrownLaws.{name_total}
@@ -96,10 +95,10 @@ some_tables : (shelf : Tables) (name : List ℕ) (new : Shelved) → (finite.len
 some_tables shelf name new =
     elim (finite.len (finite.insert shelf name new) == 0) as (λ b. (finite.len (finite.insert shelf name new) == 0) ≡ b → (finite.len (finite.insert shelf name new) == 0) ≡ false) [
       | true ↦ λ e. absurd (none_some new (
-        sym (finite.get-empty name_cmp name)
-        ∙ ap (λ (t : Tables). finite.get t name) (sym (finite.empty_of_len (finite.insert shelf name new) ((Decides-eqb (finite.len (finite.insert shelf name new)) 0).0 e)))
-        ∙ finite.get-insert name_total shelf name new name
-        ∙ ap (λ b. cond b (Some new) (finite.get shelf name)) (name_tied name)))
+          sym (finite.get-empty name_cmp name)
+          ∙ ap (λ (t : Tables). finite.get t name) (sym (finite.empty_of_len (finite.insert shelf name new) ((Decides-eqb (finite.len (finite.insert shelf name new)) 0).0 e)))
+          ∙ finite.get-insert name_total shelf name new name
+          ∙ ap (λ b. cond b (Some new) (finite.get shelf name)) (name_tied name)))
       | false ↦ λ e. e
     ] refl
 
@@ -113,7 +112,7 @@ change_says rulesets path name kind words None is each = each
 change_says rulesets path name kind words (Some node) is each =
     let said : SaysSomething node = each path node is in
     put_says rulesets path (Some (record node { shelf = changed_at node.shelf name kind words })) each (λ stands e.
-        subst SaysSomething (same_some _ stands e) (record { something = still_some node name kind words (finite.get node.shelf name) said.something; plain = said.plain }))
+    subst SaysSomething (same_some _ stands e) (record { something = still_some node name kind words (finite.get node.shelf name) said.something; plain = said.plain }))
 
 -- ---- the machine
 

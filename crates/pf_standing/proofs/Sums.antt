@@ -1,5 +1,5 @@
 -- Sums over the values of a map: where it has a value more or one less, and where none is more than another's at the same key.
-use Rattle.std.proofs.Common.{◌≡◌, ℕ, suc, ◌+◌, ◌≤◌, Bool, true, false, T, List, [], ◌∷◌, length, map, Option, Some, None, refl, sym, ap, ◌∙◌, subst, arith}
+use Rattle.std.proofs.Common.{◌≡◌, ℕ, suc, ◌+◌, ◌≤◌, Bool, true, false, T, List, [], ◌∷◌, length, map, Option, Some, None, refl, sym, ap, ◌∙◌, arith}
 use Rattle.std.specs.Prelude.{cond, ◌&&◌}
 use Rattle.std.specs.List.{sum_by}
 use Rattle.std.specs.FinMap as finite
@@ -96,7 +96,7 @@ module _ {K X : Type 0} {R : K → K → Ordering} (order : IsTotalOrder R) (sam
       let has : HasMore m e.0 e.1 = h e.0 e.1 (ap (λ r. cond (is_eq r) (Some e.1) (find R e.0 es)) (tied_itself order e.0)) in
       let whole : sum_in m ≡ f has.other + sum_in (finite.remove m e.0) = sum_rest m e.0 has.other has.there in
       let more = has.more in
-      let behind : sum_of f es ≤ sum_in (finite.remove m e.0) = fewer es (finite.remove m e.0) (second _ _ sorted) (λ q v found. later q v found (R q e.0) refl) in
+      let behind : sum_of f es ≤ sum_in (finite.remove m e.0) = fewer es (finite.remove m e.0) (second (below_all R e.0 es) (is_sorted R es) sorted) (λ q v found. later q v found (R q e.0) refl) in
       omega arith
     where
       later : (q : K) (v : X) → find R q es ≡ Some v → (r : Ordering) → R q e.0 ≡ r → HasMore (finite.remove m e.0) q v
