@@ -10,7 +10,8 @@ use Rattle.pf_state.specs.declared.ready.Opened.{Opened}
 use Rattle.pf_state.specs.declared.ready.Ready.{Ready}
 use Rattle.pf_engine.specs.LoadLines.{LineComes}
 
--- the plan stands: each ruleset of it at its path, the settings of the whole where it has some, and the host is what it was
+-- the plan stands: at each path what a load of it puts there, and, where the load is into the main ruleset, its settings in place
+-- of the old ones; the facts are as they were
 pub record Appears (ready : Ready) (before after : Machine) : Type 0 where
   pub rulesets : (path : List (List ℕ)) → finite.get after.rulesets path ≡ stands_at ready.parts before.rulesets path
   pub whole : after.whole ≡ settings_behind before.whole ready.whole

@@ -1,4 +1,4 @@
--- What stands between two script lines says something (pf.conf(5), ANCHORS and TABLES): a ruleset has a rule or a declared table.
+-- What stands between two script lines says something: a ruleset has a rule or a declared table.
 use Rattle.std.specs.Prelude.{◌≡◌, ℕ, false, List, [], Contains, Some}
 use Rattle.std.specs.FinMap as finite
 use Rattle.pf_base.specs.declared.kind.Level.TheVariants.{None as at_no_level}
@@ -10,7 +10,7 @@ use Rattle.pf_state.specs.declared.ready.Opened.{Opened}
 use Rattle.pf_state.specs.declared.ready.Ready.{Ready}
 use Rattle.pf_state.specs.declared.ready.Staged.{Staged}
 
--- where there is no rule there is no level to optimise it by, and no weight
+-- where there is no rule there is no level to optimise by, and no weight
 pub record IsPlain (written : Written) : Type 0 where
   pub level : written.rules ≡ [] → written.level ≡ at_no_level
   pub weights : written.rules ≡ [] → written.weights ≡ []
@@ -20,7 +20,7 @@ pub record SaysSomething (node : Node) : Type 0 where
   pub something : is_bare node.rules node.shelf ≡ false
   pub plain : IsPlain node.rules
 
--- the rulesets of a plan; they may be bare, since a load takes away what stands at their paths
+-- the rulesets of a plan; they may be bare, since such a load takes away the rules at their paths, and the tables without persist
 abbrev pub IsPlanPlain : Ready → Type 0
 IsPlanPlain ready = (part : Staged) → Contains ready.parts part → IsPlain part.rules
 

@@ -1,4 +1,5 @@
--- How much stands between two script lines: no more than the limits say, in the tree, in the open sessions and in their plans.
+-- How much stands and how much waits between two script lines: how many sessions are open, and the rules, rulesets and entries of
+-- the tree and of all open plans together are no more than their limits.
 use Rattle.std.specs.Prelude.{ℕ, ◌≤◌, length}
 use Rattle.std.specs.FinMap as finite
 use Rattle.std.specs.List.{sum_by}

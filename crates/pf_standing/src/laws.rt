@@ -18,8 +18,8 @@ ghost use Rattle.pf_state.specs.declared.machine.Machine.{Machine as AnyMachine}
 
 use pf_state::a_load_is_one_replacement;
 
-/// A law: each ruleset that stands has a rule or a declared table, so a path without both isn't in the tree (pf.conf(5), ANCHORS).
-/// One without rules has no level and no weights. It is so at first, each line keeps it, and so it is behind each run of lines.
+/// A law: each ruleset that stands has a rule or a declared table, so a path without both isn't in the tree. One without rules has
+/// no level and no weights, nor has one of a plan that waits. It is so at first, each line keeps it, and so behind each run of lines.
 pub fn what_stands_says_something()
     ensures first { StandsPlain empty_machine }
     ensures on { (disk : Disk) (machine : AnyMachine) (line : List ℕ) (does : Stepped AnyMachine) → StandsPlain machine → step disk machine line does → StandsPlain does.machine }
@@ -29,8 +29,8 @@ pub fn what_stands_says_something()
     a_load_is_one_replacement();
 }
 
-/// A law: behind each run of lines no more stands than the limits say: at most 64 open sessions, 131,072 rules as they are written,
-/// 4,096 rulesets, 262,144 entries of declared tables, and as many rules, rulesets and entries in all open plans together.
+/// A law: behind each run of lines at most 64 sessions are open, and the tree has at most 131,072 rules as they are written, 4,096
+/// rulesets and 262,144 entries of declared tables; all open plans together have no more of each than these (pfctl(8), DIAGNOSTICS).
 pub fn what_stands_is_within_the_limits()
     ensures first { IsWithin empty_machine }
     ensures on { (disk : Disk) (machine : AnyMachine) (line : List ℕ) (does : Stepped AnyMachine) → IsWithin machine → step disk machine line does → IsWithin does.machine }
@@ -44,7 +44,7 @@ pub fn what_stands_is_within_the_limits()
 {}
 
 /// A law: where a `commit` is done, the session was open and its whole plan stands at once; only this session is closed. Where a
-/// `load` is done, the whole plan that its file comes to stands at once, begun with the ticket that was next (pf(4), DIOCXCOMMIT).
+/// `load` is done, the whole plan that its files come to stands at once, with the ticket that was next (pf(4), DIOCXBEGIN, DIOCXCOMMIT).
 pub fn an_accepted_plan_appears_whole()
     ensures commit { (disk : Disk) (machine : AnyMachine) (line name : List ℕ) (does : Stepped AnyMachine) →
         command_of line ≡ Some (Commit name) → step disk machine line does → does.refused ≡ false → AppearsByCommit name machine does.machine }
