@@ -1,14 +1,16 @@
 -- A plan that is accepted appears whole, and nothing else changes with it.
-use Rattle.std.proofs.Common.{◌≡◌, ℕ, ◌⊎◌, Bool, true, false, cond, List, [], ◌∷◌, Option, Some, None, Result, Ok, Err, refl, sym, ap, subst, ◌∙◌, inl, inr}
-use Rattle.std.specs.Prelude.{Contains}
+use Rattle.std.proofs.Common.{◌≡◌, ℕ, ◌⊎◌, Bool, true, false, cond, List, [], ◌∷◌, Option, Some, None, Result, Ok, Err, refl, sym, ap, subst, ◌∙◌, inl, inr, if◌then◌else◌}
+use Rattle.std.specs.Prelude.{◌==◌, Contains}
 use Rattle.std.specs.Cmp.{Equal-is, tied_itself}
 use Rattle.std.specs.FinMap as finite
-use Rattle.std.specs.Option.{option_map_or}
+use Rattle.std.specs.Option.{option_map, option_map_or}
 use Rattle.std.specs.Ordering.{eq_by_cmp, is_eq}
 use Rattle.std.proofs.lemmas.Bool.{cases_Bool, false≢true}
+use Rattle.std.proofs.lemmas.Bool.Decides.{Decides-eqb}
 use Rattle.pf_calls.specs.GraphLaws.{in_cons, later_in, none_in, now_in}
 use Rattle.pf_reply.specs.declared.refusal.Refusal.{Refusal}
 use Rattle.pf_reply.specs.declared.refusal.Refusal.TheVariants.{NoSession}
+use Rattle.pf_reply.specs.declared.refusal.Refusal.TheVariants as refusals
 use Rattle.pf_reply.specs.declared.reply.Reply.{Reply}
 use Rattle.pf_reply.specs.declared.reply.Reply.TheVariants as replies
 use Rattle.pf_runs.specs.Runs.{Stepped}
@@ -17,9 +19,11 @@ use Rattle.pf_script.specs.declared.command.Command.{Command}
 use Rattle.pf_script.specs.declared.command.Command.TheVariants as commands
 use Rattle.pf_script.specs.declared.command.LoadLine.{LoadLine}
 use Rattle.pf_source.specs.Disk.{Disk}
-use Rattle.pf_state.specs.Commits.{loaded, paths_of}
+use Rattle.pf_state.specs.Commits.{committed, loaded, paths_of}
+use Rattle.pf_state.specs.Judging.{CommitJudged, call_refusal}
+use Rattle.pf_state.specs.Limits.{first_of, tree_limits}
 use Rattle.pf_state.specs.Sessions.{closed, finished}
-use Rattle.pf_state.specs.Tickets.{Tickets, given, ticket_at}
+use Rattle.pf_state.specs.Tickets.{Tickets, given, stale, ticket_at}
 use Rattle.pf_state.specs.declared.machine.Machine.{Machine}
 use Rattle.pf_state.specs.declared.ready.Opened.{Opened}
 use Rattle.pf_state.specs.declared.ready.Ready.{Ready}
@@ -30,7 +34,8 @@ use Rattle.pf_engine.specs.SessionLines.{CommitOf}
 use Rattle.pf_engine.specs.Step.{LineDoes, step}
 use Rattle.pf_engine.specs.Steps.{done_unless, refused}
 use Rattle.pf_standing.specs.Appearing.{AppearsByCommit, AppearsByLoad}
-use Rattle.pf_standing.proofs.Finding.{name_tied, name_untied}
+use Rattle.pf_standing.proofs.Carrying.{no_first}
+use Rattle.pf_standing.proofs.Finding.{name_tied, name_untied, none_some}
 use Rattle.pf_standing.proofs.Saying.{IsOneReplacement}
 
 abbrev Path : Type 0
@@ -93,20 +98,42 @@ given_outside n (at ∷ paths) tickets path outside =
     given_outside n paths (finite.insert tickets at n) path (λ within. outside (later_in at paths path within))
     ∙ at_other tickets at n path (λ same. outside (subst (λ (q : Path). Contains (at ∷ paths) q) (sym same) (now_in at paths)))
 
+-- where none is stale, each of the paths has the ticket that is held
+all_held : (tickets : Tickets) (held : ℕ) (paths : List Path) → stale tickets held paths ≡ None → (path : Path) → Contains paths path → ticket_at tickets path ≡ held
+all_held tickets held [] none path within = absurd (none_in path within)
+all_held tickets held (at ∷ paths) none path within =
+    from (λ rest later. all_held tickets held paths rest path later) (held == ticket_at tickets at) refl none (in_cons at paths path within)
+  where
+    from : (stale tickets held paths ≡ None → Contains paths path → ticket_at tickets path ≡ held) → (b : Bool) → (held == ticket_at tickets at) ≡ b
+        → (if b then stale tickets held paths else Some (refusals.Stale at held (ticket_at tickets at))) ≡ None → (at ≡ path) ⊎ Contains paths path → ticket_at tickets path ≡ held
+    from on true same rest (inl here) = subst (λ (q : Path). ticket_at tickets q ≡ held) here (sym ((Decides-eqb held (ticket_at tickets at)).0 same))
+    from on true same rest (inr later) = on rest later
+    from on false other e place = absurd (none_some _ (sym e))
+
 -- ---- lines that are done
 
 finished_by : (refusal : Option Refusal) (before after : Machine) (reply : Reply) (does : Stepped Machine) → does ≡ done_unless refusal before after reply → does.refused ≡ false → does.machine ≡ after
 finished_by None before after reply does e h = ap (λ (d : Stepped Machine). d.machine) e
 finished_by (Some refusal) before after reply does e h = absurd (false≢true (sym h ∙ ap (λ (d : Stepped Machine). d.refused) e))
 
+none_told : (refusal : Option Refusal) (before after : Machine) (reply : Reply) (does : Stepped Machine) → does ≡ done_unless refusal before after reply → does.refused ≡ false → refusal ≡ None
+none_told None before after reply does e h = refl
+none_told (Some refusal) before after reply does e h = absurd (false≢true (sym h ∙ ap (λ (d : Stepped Machine). d.refused) e))
+
+none_stale : (machine : Machine) (session : Opened) (refusal : Option Refusal) → CommitJudged machine session refusal → refusal ≡ None → stale machine.tickets session.ticket (paths_of session.ready.parts) ≡ None
+none_stale machine session refusal judged none =
+    (no_first (stale machine.tickets session.ticket (paths_of session.ready.parts)) None
+    (no_first (first_of (stale machine.tickets session.ticket (paths_of session.ready.parts) ∷ [])) (first_of (option_map call_refusal judged.calls ∷ tree_limits (committed session.ready.parts machine.rulesets))) (sym judged.is ∙ none)).0).0
+
 not_refused : (machine : Machine) (refusal : Refusal) (does : Stepped Machine) → does ≡ refused machine refusal → does.refused ≡ false → ⊥
 not_refused machine refusal does e h = false≢true (sym h ∙ ap (λ (d : Stepped Machine). d.refused) e)
 
 module _ (law : IsOneReplacement) where
-  finished_appears : (machine : Machine) (name : List ℕ) (session : Opened) → finite.get machine.sessions name ≡ Some session → AppearsByCommit name machine (finished name session machine)
-  finished_appears machine name session there = record {
+  finished_appears : (machine : Machine) (name : List ℕ) (session : Opened) → finite.get machine.sessions name ≡ Some session → stale machine.tickets session.ticket (paths_of session.ready.parts) ≡ None → AppearsByCommit name machine (finished name session machine)
+  finished_appears machine name session there none = record {
     session = session;
     was_open = there;
+    fresh = all_held machine.tickets session.ticket (paths_of session.ready.parts) none;
     appears = record { rulesets = law session.ready.parts machine.rulesets; whole = refl; facts = refl };
     closed = finite.get-remove name_total machine.sessions name name ∙ ap (λ (b : Bool). cond b None (finite.get machine.sessions name)) (name_tied name);
     others = λ other apart. finite.get-remove name_total machine.sessions name other ∙ ap (λ (b : Bool). cond b None (finite.get machine.sessions other)) (name_untied other name apart);
@@ -130,7 +157,7 @@ module _ (law : IsOneReplacement) where
   by_commit (Some session) machine name does there accepted commits =
       subst (λ (after : Machine). AppearsByCommit name machine after)
       (sym (finished_by commits.refusal (closed name machine) (finished name session machine) (replies.Committed name) does commits.is accepted))
-      (finished_appears machine name session there)
+      (finished_appears machine name session there (none_stale machine session commits.refusal commits.judged (none_told commits.refusal (closed name machine) (finished name session machine) (replies.Committed name) does commits.is accepted)))
 
   by_load : (disk : Disk) (line : LoadLine) (machine : Machine) (answer : Result Ready Refusal) (does : Stepped Machine) → does.refused ≡ false → LineComes disk machine.facts line answer → Loading machine answer does → AppearsByLoad disk line machine does.machine
   by_load disk line machine (Err refusal) does accepted comes e = absurd (not_refused machine refusal does e accepted)

@@ -3,5 +3,6 @@ mod Carrying
 mod Examples
 mod Finding
 mod Limited
+mod Numbers
 mod Saying
 mod Sums

@@ -17,10 +17,12 @@ pub record Appears (ready : Ready) (before after : Machine) : Type 0 where
   pub whole : after.whole ≡ settings_behind before.whole ready.whole
   pub facts : after.facts ≡ before.facts
 
--- The plan of an open session stands; the session is closed, all others are as they were, and no ticket is drawn.
+-- The plan of an open session stands, of which no ruleset was begun anew since; the session is closed, all others are as they
+-- were, and no ticket is drawn.
 pub record AppearsByCommit (name : List ℕ) (before after : Machine) : Type 0 where
   pub session : Opened
   pub was_open : finite.get before.sessions name ≡ Some session
+  pub fresh : (path : List (List ℕ)) → Contains (paths_of session.ready.parts) path → ticket_at before.tickets path ≡ session.ticket
   pub appears : Appears session.ready before after
   pub closed : finite.get after.sessions name ≡ None
   pub others : (other : List ℕ) → (other ≡ name → ⊥) → finite.get after.sessions other ≡ finite.get before.sessions other

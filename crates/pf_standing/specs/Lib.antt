@@ -1,3 +1,4 @@
 pub mod Standing
 pub mod Within
 pub mod Appearing
+pub mod Numbers

@@ -10,6 +10,7 @@ ghost use Rattle.pf_script.specs.declared.command.Command.TheVariants.{Commit, L
 ghost use Rattle.pf_script.specs.declared.command.LoadLine.{LoadLine};
 ghost use Rattle.pf_source.specs.Disk.{Disk};
 ghost use Rattle.pf_standing.specs.Appearing.{AppearsByCommit, AppearsByLoad};
+ghost use Rattle.pf_standing.specs.Numbers.{TicketsAreNumbers};
 ghost use Rattle.pf_standing.specs.Standing.{SaysSomething, StandsPlain};
 ghost use Rattle.pf_standing.specs.Within.{IsWithin, all_planned_entries, all_planned_rules, all_planned_rulesets};
 ghost use Rattle.pf_state.specs.Machine.{empty_machine};
@@ -43,8 +44,17 @@ pub fn what_stands_is_within_the_limits()
     ensures planned_entries { (machine : AnyMachine) → IsReached machine → all_planned_entries machine.sessions ≤ 262144 }
 {}
 
-/// A law: where a `commit` is done, the session was open and its whole plan stands at once; only this session is closed. Where a
-/// `load` is done, the whole plan that its files come to stands at once, with the ticket that was next (pf(4), DIOCXBEGIN, DIOCXCOMMIT).
+/// A law: no ticket is 0, which stands for none: none that a path was given, none of an open session, and not the next one. It is so
+/// at first, each line keeps it, and so behind each run of lines (pf(4), DIOCXBEGIN).
+pub fn tickets_are_numbers()
+    ensures first { TicketsAreNumbers empty_machine }
+    ensures on { (disk : Disk) (machine : AnyMachine) (line : List ℕ) (does : Stepped AnyMachine) → TicketsAreNumbers machine → step disk machine line does → TicketsAreNumbers does.machine }
+    ensures reached { (machine : AnyMachine) → IsReached machine → TicketsAreNumbers machine }
+{}
+
+/// A law: where a `commit` is done, the session was open with no ruleset begun anew since, its whole plan stands at once, and only
+/// this session is closed. Where a `load` is done, the whole plan that its files come to stands at once, with the ticket that was
+/// next (pf(4), DIOCXBEGIN, DIOCXCOMMIT).
 pub fn an_accepted_plan_appears_whole()
     ensures commit { (disk : Disk) (machine : AnyMachine) (line name : List ℕ) (does : Stepped AnyMachine) →
         command_of line ≡ Some (Commit name) → step disk machine line does → does.refused ≡ false → AppearsByCommit name machine does.machine }
